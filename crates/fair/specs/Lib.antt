@@ -1,0 +1,2 @@
+-- The fair rule.
+pub mod Fair

@@ -1,0 +1,1 @@
+// The fair rule: the line-by-line cut of overloaded lines.

@@ -1,0 +1,2 @@
+-- Matrices below bounds and limits, and cuts.
+pub mod Flows

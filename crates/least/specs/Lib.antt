@@ -1,0 +1,2 @@
+-- The least rule.
+pub mod Least

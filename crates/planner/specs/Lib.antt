@@ -1,0 +1,3 @@
+-- What the entries that plan one frame promise.
+pub mod Slacks
+pub mod Plans

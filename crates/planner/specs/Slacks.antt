@@ -1,0 +1,26 @@
+-- The entry `slacks`: which refusal it gives, in which order, and what its table then holds.
+use Prim.Native.Nat.{ℕ, _*_}
+use mathlib.Core.List.{List}
+use lib.ListN.{length}
+use lib.IntN.{ℤ}
+use Rattle.sums.specs.Tables.{tab, written}
+use Rattle.star.specs.declared.refusals.Refusal.the-variants.{Nodes, Slots, DemandShort, TableShort, DemandAbove}
+use Rattle.star.specs.declared.refusals.Verdict.{Verdict}
+use Rattle.star.specs.declared.refusals.Verdict.the-variants.{Accepted, Refused}
+use Rattle.star.specs.Refusals.{refuse, nodesOut, slotsOut, short, someCell, firstAbove}
+use Rattle.star.specs.Lines.{slack, wholeFrame}
+
+-- Slacks 1, 2, 4, 5, 6: N, L, the demand, and how many cells the lent table has.
+unfoldable pub slacksVerdict : (n l : ℕ) (d : List ℕ) (room : ℕ) → Verdict
+slacksVerdict n l d room =
+    refuse (nodesOut n) Nodes
+    (refuse (slotsOut l) Slots
+    (refuse (short (length d) (n * n)) DemandShort
+    (refuse (short room (2 * n)) TableShort
+    (refuse (someCell (n * n) (firstAbove n d)) (DemandAbove (firstAbove n d))
+    Accepted))))
+
+-- Slacks go to a signed table of 2N cells in line order; its further cells are not changed. A refusal writes nothing.
+unfoldable pub slacksAfter : (v : Verdict) (n l : ℕ) (d : List ℕ) (table : List ℤ) → List ℤ
+slacksAfter Accepted n l d table = written (2 * n) (tab (2 * n) (slack n (wholeFrame n l) d)) table
+slacksAfter (Refused r) n l d table = table

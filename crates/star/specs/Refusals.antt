@@ -1,0 +1,85 @@
+-- What is refused: each refusal's number and place, and when it fires.
+use Prim.Native.Nat.{ℕ, _*_}
+use mathlib.Core.Bool.{Bool, true, false, _||_, not}
+use mathlib.Core.List.{List}
+use lib.ListN.{getD}
+use lib.Dec.{ltb, leb}
+use Rattle.sums.specs.Searches.{firstBelow}
+use Rattle.star.specs.declared.refusals.Refusal.{Refusal}
+use Rattle.star.specs.declared.refusals.Refusal.the-variants.{Nodes, Slots, Rule, DemandShort, TableShort, DemandAbove, QueueLimit, BooksDisagree, CallsSpent}
+use Rattle.star.specs.declared.refusals.Verdict.{Verdict}
+use Rattle.star.specs.declared.refusals.Verdict.the-variants.{Accepted, Refused}
+
+-- the table's column "No."
+abbrev pub refusalNumber : Refusal → ℕ
+refusalNumber Nodes = 1
+refusalNumber Slots = 2
+refusalNumber Rule = 3
+refusalNumber DemandShort = 4
+refusalNumber TableShort = 5
+refusalNumber (DemandAbove c) = 6
+refusalNumber QueueLimit = 7
+refusalNumber (BooksDisagree c) = 8
+refusalNumber CallsSpent = 9
+
+-- the table's column "Place": 0, or the cell
+abbrev pub refusalPlace : Refusal → ℕ
+refusalPlace Nodes = 0
+refusalPlace Slots = 0
+refusalPlace Rule = 0
+refusalPlace DemandShort = 0
+refusalPlace TableShort = 0
+refusalPlace (DemandAbove c) = c
+refusalPlace QueueLimit = 0
+refusalPlace (BooksDisagree c) = c
+refusalPlace CallsSpent = 0
+
+-- An accepted call reports number 0 and place 0.
+abbrev pub verdictNumber : Verdict → ℕ
+verdictNumber Accepted = 0
+verdictNumber (Refused r) = refusalNumber r
+
+abbrev pub verdictPlace : Verdict → ℕ
+verdictPlace Accepted = 0
+verdictPlace (Refused r) = refusalPlace r
+
+-- The first that fires is given: a check's refusal where it fires, and else what the later checks give.
+abbrev pub refuse : Bool → Refusal → Verdict → Verdict
+refuse true r later = Refused r
+refuse false r later = later
+
+-- outside its range
+abbrev pub outside : (low high x : ℕ) → Bool
+outside low high x = ltb x low || ltb high x
+
+-- N: 1 to 64
+abbrev pub nodesOut : ℕ → Bool
+nodesOut n = outside 1 64 n
+
+-- L: 1 to 1,024
+abbrev pub slotsOut : ℕ → Bool
+slotsOut l = outside 1 1024 l
+
+-- the rule: 0 fair, 1 least
+abbrev pub ruleOut : ℕ → Bool
+ruleOut rule = ltb 1 rule
+
+-- B: 1 to 65,535
+abbrev pub limitOut : ℕ → Bool
+limitOut b = outside 1 65535 b
+
+-- a table of `room` cells is shorter than needed
+abbrev pub short : (room needed : ℕ) → Bool
+short room needed = ltb room needed
+
+-- this kind of call already accepted 1,000,000 times or more
+abbrev pub spent : ℕ → Bool
+spent calls = leb 1000000 calls
+
+-- whether some of the first m cells is a bad one, given the first bad cell among them, or m
+abbrev pub someCell : (m first : ℕ) → Bool
+someCell m first = ltb first m
+
+-- A demand or arrival above 65,535; the first such cell in row order gives the place. Here that cell, or N×N where there is none.
+unfoldable pub firstAbove : (n : ℕ) (d : List ℕ) → ℕ
+firstAbove n d = firstBelow (n * n) (λ p. ltb 65535 (getD d p 0))

@@ -1,0 +1,66 @@
+-- The first number at which a test holds: what is found, what was passed, and what is so where nothing is found. The laws assume nothing.
+use Prim.Native.Nat.{ℕ, zero, suc, _+_, _≤_, _<_, zero-le}
+use native.Mathlib.Omega.{arith}
+use native.Mathlib.Nat.{zero-add}
+use mathlib.Core.Path.{_≡_, refl, sym, _∙_, ap}
+use mathlib.Core.Bool.{Bool, true, false, _||_, false≢true}
+use Rattle.sums.specs.Searches.{firstFrom, firstBelow, someBelow}
+use Rattle.sums.proofs.Cases.{by-eq, by-lt}
+
+module _ (test : ℕ → Bool) where
+  from-at : (left k at : ℕ) → k ≤ at → at < k + left → ((q : ℕ) → k ≤ q → q < at → test q ≡ false) → test at ≡ true → firstFrom left k test ≡ at
+  unfolding firstFrom
+  from-at zero k at low high before here = omega arith
+  from-at (suc left) k at low high before here =
+      by-eq k at
+      (λ e. rw (ap test e ∙ here, firstFrom) e)
+      (λ ne. rw (before k (omega arith) (omega arith), firstFrom) (from-at left (suc k) at (omega arith) (omega arith) (λ q p r. before q (omega arith) r) here))
+
+  from-none : (left k : ℕ) → ((q : ℕ) → k ≤ q → q < k + left → test q ≡ false) → firstFrom left k test ≡ k + left
+  unfolding firstFrom
+  from-none zero k none = omega arith
+  from-none (suc left) k none =
+      rw (none k (omega arith) (omega arith), firstFrom) (from-none left (suc k) (λ q p r. none q (omega arith) (omega arith)) ∙ omega arith)
+
+  -- the first number at which the test holds is found
+  pub first-at : (m at : ℕ) → at < m → ((q : ℕ) → q < at → test q ≡ false) → test at ≡ true → firstBelow m test ≡ at
+  unfolding firstBelow
+  first-at m at lt before here = from-at m 0 at zero-le (omega arith) (λ q p r. before q r) here
+
+  -- nothing is found
+  pub first-none : (m : ℕ) → ((q : ℕ) → q < m → test q ≡ false) → firstBelow m test ≡ m
+  unfolding firstBelow
+  first-none m none = from-none m 0 (λ q p r. none q (omega arith)) ∙ zero-add m
+
+  from-before : (left k q : ℕ) → k ≤ q → q < firstFrom left k test → test q ≡ false
+  unfolding firstFrom
+  from-before zero k q low high = absurd (omega arith)
+  from-before (suc left) k q low high = go (test k) refl high (from-before left (suc k) q)
+    where
+      go : (b : Bool) → test k ≡ b → q < elim b [ true ↦ k | false ↦ firstFrom left (suc k) test ] → (suc k ≤ q → q < firstFrom left (suc k) test → test q ≡ false) → test q ≡ false
+      go true e h rest = absurd (omega arith)
+      go false e h rest = by-eq k q (λ s. sym (ap test s) ∙ e) (λ ne. rest (omega arith) h)
+
+  -- at every number passed the test fails
+  pub first-before : (m q : ℕ) → q < firstBelow m test → test q ≡ false
+  unfolding firstBelow
+  first-before m q h = from-before m 0 q zero-le h
+
+  -- no number below m has what the test asks
+  pub some-none : (m : ℕ) → ((q : ℕ) → q < m → test q ≡ false) → someBelow m test ≡ false
+  unfolding someBelow
+  some-none zero none = refl
+  some-none (suc m) none = rw (some-none m (λ q h. none q (omega arith))) (none m (omega arith))
+
+  -- some number below m has it
+  pub some-at : (m q : ℕ) → q < m → test q ≡ true → someBelow m test ≡ true
+  unfolding someBelow
+  some-at zero q h e = absurd (omega arith)
+  some-at (suc m) q h e =
+      by-eq q m
+      (λ s. or-last (someBelow m test) (sym (ap test s) ∙ e))
+      (λ ne. rw (some-at m q (omega arith) e))
+    where
+      or-last : (b : Bool) {x : Bool} → x ≡ true → (b || x) ≡ true
+      or-last true e = refl
+      or-last false e = e

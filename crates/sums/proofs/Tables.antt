@@ -1,0 +1,112 @@
+-- Cells of a table in a list: their places, tables made by a rule, stores, and a lent table whose first cells are new. The laws assume nothing.
+use Prim.Native.Nat.{ℕ, zero, suc, _+_, _-_, _*_, _/_, _%_, _≤_, _<_}
+use native.Mathlib.Nat.{mul-le-mul, mod-lt, div-add-mod', div-lt-iff-lt-mul}
+use native.Mathlib.Numerals.{add-one}
+use native.Mathlib.Omega.{arith}
+use mathlib.Core.Path.{_≡_, refl, sym, _∙_, ap}
+use mathlib.Core.List.{List, [], _∷_, _++_, append-assoc}
+use lib.Arith.{digits-lt, digits-div, digits-mod}
+use lib.ListN.{length, getD, take, drop, set, length-append, length-set, List·getD-append}
+use lib.Seq.{drop-cons, set-at, ext-getD, getD-set-same, getD-set-other, getD-append-add, getD-append-seam, getD-drop, drop-at, take-at}
+use Rattle.sums.specs.Tables.{cell, tab, square, written}
+use Rattle.sums.proofs.Cases.{by-eq}
+
+-- ---- places
+-- 64 nodes have at most 4,096 cells
+pub mul-small : (a b : ℕ) → a ≤ 64 → b ≤ 64 → a * b ≤ 4096
+mul-small a b p q = mul-le-mul p q
+
+pub cell-lt : (n i j : ℕ) → i < n → j < n → i * n + j < n * n
+cell-lt n i j p q = digits-lt p q
+
+-- a place is of one row and one column
+pub place-row : (n k m v j : ℕ) → v < n → j < n → k * n + v ≡ m * n + j → k ≡ m
+place-row n k m v j hv hj e = sym (digits-div k hv) ∙ ap (λ (x : ℕ). x / n) e ∙ digits-div m hj
+
+pub place-col : (n k m v j : ℕ) → v < n → j < n → k * n + v ≡ m * n + j → v ≡ j
+place-col n k m v j hv hj e = sym (digits-mod k hv) ∙ ap (λ (x : ℕ). x % n) e ∙ digits-mod m hj
+
+-- ---- a list made by a rule
+module _ {A : Type 0} (f : ℕ → A) where
+  pub length-tab : (m : ℕ) → length (tab m f) ≡ m
+  unfolding tab
+  length-tab zero = refl
+  length-tab (suc m) = rw (length-append, length-tab m) (add-one m)
+
+  pub tab-at : (m k : ℕ) (z : A) → k < m → getD (tab m f) k z ≡ f k
+  unfolding tab
+  tab-at zero k z h = absurd (omega arith)
+  tab-at (suc m) k z h =
+      by-eq k m
+      (λ e. rw (e, last) refl)
+      (λ ne. List·getD-append (tab m f) (f m ∷ []) z k (rw (length-tab m) (omega arith)) ∙ tab-at m k z (omega arith))
+    where
+      last : getD (tab m f ++ (f m ∷ [])) m z ≡ f m
+      last = ap (λ x. getD (tab m f ++ (f m ∷ [])) x z) (sym (length-tab m)) ∙ getD-append-seam (tab m f) (f m) [] z
+
+  -- one cell more is written
+  pub tab-more : (p : ℕ) (o : List A) (z : A) → p < length o → set (tab p f ++ drop p o) p (f p) ≡ tab (p + 1) f ++ drop (p + 1) o
+  unfolding tab
+  tab-more p o z h = rw (add-one, drop-cons o p z h, set-at (tab p f) (getD o p z) (drop (suc p) o) (f p) p (length-tab p), append-assoc)
+
+pub tab-ext : {A : Type 0} (m : ℕ) (f g : ℕ → A) → ((k : ℕ) → k < m → f k ≡ g k) → tab m f ≡ tab m g
+unfolding tab
+tab-ext zero f g h = refl
+tab-ext (suc m) f g h = rw (tab-ext m f g (λ k lt. h k (omega arith)), h m (omega arith)) refl
+
+-- ---- a square table made by a rule
+module _ (n : ℕ) (f : ℕ → ℕ → ℕ) where
+  pub length-square : length (square n f) ≡ n * n
+  unfolding square
+  length-square = length-tab _ (n * n)
+
+  pub square-cell : (i j : ℕ) → i < n → j < n → cell n (square n f) i j ≡ f i j
+  unfolding square cell
+  square-cell i j hi hj =
+      tab-at (λ p. f (p / n) (p % n)) (n * n) (i * n + j) 0 (cell-lt n i j hi hj)
+      ∙ rw (digits-div i hj, digits-mod i hj) refl
+
+-- a number below n * n is the place of one row and one column
+pub place-split : (n p : ℕ) → p < n * n → (p / n < n) × ((p % n < n) × (p / n * n + p % n ≡ p))
+place-split zero p h = absurd (omega arith)
+place-split (suc n) p h = (div-lt-iff-lt-mul {k = suc n} {x = p} {y = suc n} (omega arith) .1 h, (mod-lt p (omega arith), div-add-mod' p (suc n)))
+
+-- two tables of n * n cells that agree at each pair are one
+pub square-ext : (n : ℕ) (s t : List ℕ) → length s ≡ n * n → length t ≡ n * n → ((i j : ℕ) → i < n → j < n → cell n s i j ≡ cell n t i j) → s ≡ t
+unfolding cell
+square-ext n s t ls lt same =
+    ext-getD 0 s t (ls ∙ sym lt) (λ p h.
+    let q = place-split n p (omega arith) in
+    ap (λ x. getD s x 0) (sym (q .1 .1)) ∙ same (p / n) (p % n) (q .0) (q .1 .0) ∙ ap (λ x. getD t x 0) (q .1 .1))
+
+-- ---- stores
+module _ (n : ℕ) (t : List ℕ) (a j x : ℕ) (hj : j < n) where
+  pub set-here : a * n + j < length t → cell n (set t (a * n + j) x) a j ≡ x
+  unfolding cell
+  set-here fits = getD-set-same t (a * n + j) x 0 fits
+
+  pub set-row : (k v : ℕ) → v < n → (k ≡ a → ⊥) → cell n (set t (a * n + j) x) k v ≡ cell n t k v
+  unfolding cell
+  set-row k v hv ne = getD-set-other t (a * n + j) (k * n + v) x 0 (λ e. ne (place-row n k a v j hv hj e))
+
+  pub set-col : (k v : ℕ) → v < n → (v ≡ j → ⊥) → cell n (set t (a * n + j) x) k v ≡ cell n t k v
+  unfolding cell
+  set-col k v hv ne = getD-set-other t (a * n + j) (k * n + v) x 0 (λ e. ne (place-col n k a v j hv hj e))
+
+-- ---- a lent table
+module _ (m : ℕ) (new old : List ℕ) (fits : length new ≡ m) where
+  pub written-at : (p : ℕ) → p < m → getD (written m new old) p 0 ≡ getD new p 0
+  unfolding written
+  written-at p h = List·getD-append new (drop m old) 0 p (omega arith)
+
+  pub written-rest : drop m (written m new old) ≡ drop m old
+  unfolding written
+  written-rest = drop-at new (drop m old) m fits
+
+  pub written-first : take m (written m new old) ≡ new
+  unfolding written
+  written-first = take-at new (drop m old) m fits
+
+pub written-cell : (n : ℕ) (new old : List ℕ) → length new ≡ n * n → (i j : ℕ) → i < n → j < n → cell n (written (n * n) new old) i j ≡ cell n new i j
+unfolding cell
+written-cell n new old fits i j hi hj = written-at (n * n) new old fits (i * n + j) (cell-lt n i j hi hj)
