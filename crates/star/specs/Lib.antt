@@ -1,4 +1,5 @@
--- Document 01's words: lines and slacks, refusals, schedules.
+-- Document 01's words: tables, lines and slacks, refusals, schedules.
+pub mod Tables
 pub mod Lines
 pub mod Refusals
 pub mod Schedules

@@ -1,2 +1,4 @@
-// Document 01's words, as every layer above uses them: lines and their slacks, refusals, schedules.
+// Document 01's words, as every layer above uses them: tables of cells, lines and their slacks, what is refused.
+pub mod lines;
 pub mod refusals;
+pub mod tables;

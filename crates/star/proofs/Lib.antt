@@ -1,0 +1,3 @@
+-- The laws of lines and slacks.
+pub mod SignedLaws
+pub mod LineLaws

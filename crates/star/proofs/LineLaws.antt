@@ -1,0 +1,79 @@
+-- Lines: a row's and a column's cells and sums, the total by rows and by columns, slack and excess as plain numbers. The laws assume nothing.
+use Prim.Native.Nat.{ℕ, zero, suc, _+_, _-_, _*_, _≤_, _<_}
+use native.Mathlib.Omega.{arith}
+use mathlib.Core.Path.{_≡_, refl, sym, _∙_, ap, ap₂}
+use mathlib.Core.Bool.{Bool, true, false}
+use mathlib.Core.List.{List}
+use lib.ListN.{getD, length-replicate, getD-replicate}
+use lib.Dec.{ltb}
+use borrow.Author.Tests.{lt-ltb, le-ltb}
+use Rattle.sums.specs.Sums.{sumTo}
+use Rattle.sums.specs.Tables.{cell}
+use Rattle.sums.proofs.Sums.{sum-ext, sum-swap}
+use Rattle.sums.proofs.Cases.{by-lt}
+use Rattle.sums.proofs.Tables.{cell-lt}
+use Rattle.star.specs.Tables.{Demands}
+use Rattle.star.specs.Lines.{sourceOn, destinationOn, onLine, lineSum, total, wholeFrame, slack, overflows, excess}
+use Rattle.star.proofs.SignedLaws.{excess-of-sub, negative-sub}
+
+-- ---- cells of a line
+pub on-row : (n : ℕ) (d : List ℕ) (ℓ t : ℕ) → ℓ < n → onLine n d ℓ t ≡ cell n d ℓ t
+unfolding onLine sourceOn destinationOn
+on-row n d ℓ t h = simp (lt-ltb ℓ n h)
+
+pub on-column : (n : ℕ) (d : List ℕ) (ℓ t : ℕ) → n ≤ ℓ → onLine n d ℓ t ≡ cell n d t (ℓ - n)
+unfolding onLine sourceOn destinationOn
+on-column n d ℓ t h = simp (le-ltb ℓ n h)
+
+pub source-lt : (n ℓ t : ℕ) → ℓ < 2 * n → t < n → sourceOn n ℓ t < n
+unfolding sourceOn
+source-lt n ℓ t hl ht = by-lt ℓ n (λ h. rw (lt-ltb ℓ n h) h) (λ h. rw (le-ltb ℓ n h) ht)
+
+pub destination-lt : (n ℓ t : ℕ) → ℓ < 2 * n → t < n → destinationOn n ℓ t < n
+unfolding destinationOn
+destination-lt n ℓ t hl ht = by-lt ℓ n (λ h. rw (lt-ltb ℓ n h) ht) (λ h. rw (le-ltb ℓ n h) (omega arith))
+
+-- a demand is at most 65,535, on a line too
+pub on-line-most : (n : ℕ) (d : List ℕ) (ℓ t : ℕ) → Demands n d → ℓ < 2 * n → t < n → onLine n d ℓ t ≤ 65535
+unfolding onLine cell
+on-line-most n d ℓ t h hl ht = h .most _ (cell-lt n _ _ (source-lt n ℓ t hl ht) (destination-lt n ℓ t hl ht))
+
+-- ---- sums
+pub row-sum : (n : ℕ) (d : List ℕ) (i : ℕ) → i < n → lineSum n d i ≡ sumTo n (λ j. cell n d i j)
+unfolding lineSum
+row-sum n d i h = sum-ext n _ _ (λ t p. on-row n d i t h)
+
+pub column-sum : (n : ℕ) (d : List ℕ) (j : ℕ) → lineSum n d (n + j) ≡ sumTo n (λ i. cell n d i j)
+unfolding lineSum
+column-sum n d j = sum-ext n _ _ (λ t p. on-column n d (n + j) t (omega arith) ∙ ap (cell n d t) (omega arith))
+
+-- matrices that agree at each pair have the same line sums and total
+module _ (n : ℕ) (d e : List ℕ) (same : (i j : ℕ) → i < n → j < n → cell n d i j ≡ cell n e i j) where
+  pub line-ext : (ℓ : ℕ) → ℓ < 2 * n → lineSum n d ℓ ≡ lineSum n e ℓ
+  unfolding lineSum onLine
+  line-ext ℓ h = sum-ext n _ _ (λ t p. same _ _ (source-lt n ℓ t h p) (destination-lt n ℓ t h p))
+
+  pub total-ext : total n d ≡ total n e
+  unfolding total
+  total-ext = sum-ext n _ _ (λ i p. sum-ext n _ _ (λ j q. same i j p q))
+
+pub total-rows : (n : ℕ) (d : List ℕ) → total n d ≡ sumTo n (λ i. lineSum n d i)
+unfolding total
+total-rows n d = sum-ext n _ _ (λ i p. sym (row-sum n d i p))
+
+pub total-columns : (n : ℕ) (d : List ℕ) → total n d ≡ sumTo n (λ j. lineSum n d (n + j))
+unfolding total
+total-columns n d = sum-swap n n (cell n d) ∙ sum-ext n _ _ (λ j p. sym (column-sum n d j))
+
+-- ---- slack and excess
+pub capacity : (n l ℓ : ℕ) → ℓ < 2 * n → getD (wholeFrame n l) ℓ 0 ≡ l
+unfolding wholeFrame
+capacity n l ℓ h = getD-replicate (2 * n) ℓ l 0 h
+
+pub excess-is : (n : ℕ) (cap d : List ℕ) (ℓ : ℕ) → excess n cap d ℓ ≡ lineSum n d ℓ - getD cap ℓ 0
+unfolding excess slack
+excess-is n cap d ℓ = excess-of-sub (getD cap ℓ 0) (lineSum n d ℓ)
+
+pub overflows-is : (n : ℕ) (cap d : List ℕ) (ℓ : ℕ) → overflows n cap d ℓ ≡ ltb (getD cap ℓ 0) (lineSum n d ℓ)
+unfolding overflows slack
+overflows-is n cap d ℓ = negative-sub (getD cap ℓ 0) (lineSum n d ℓ)

@@ -1,0 +1,13 @@
+-- What the functions on tables ask: a square table of n nodes that is long enough, and demands within their range.
+use Prim.Native.Nat.{ℕ, _*_, _≤_, _<_}
+use mathlib.Core.List.{List}
+use lib.ListN.{length, getD}
+
+-- n nodes, and a table with a cell for each pair
+pub record Square (n : ℕ) (d : List ℕ) : Type 0 where
+  pub nodes : n ≤ 64
+  pub cells : n * n ≤ length d
+
+-- one demand or arrival: 0 to 65,535
+pub record Demands (n : ℕ) (d : List ℕ) : Type 0 where
+  pub most : (p : ℕ) → p < n * n → getD d p 0 ≤ 65535

@@ -1,0 +1,76 @@
+// Lines: rows and columns as one thing. Lines 0 to N-1 are the rows; line N+j is column j.
+use crate::tables::get;
+ghost use mathlib.Core.Path.{_≡_};
+ghost use Prim.Native.Nat.{ℕ, _+_, _*_, _<_, _≤_};
+ghost use lib.ListN.{length, getD};
+ghost use lib.IntN.{subℕ};
+ghost use lib.Signed.{mag};
+ghost use Rattle.star.specs.Tables.{Square, Demands};
+ghost use Rattle.star.specs.Lines.{onLine, lineSum, excessOf};
+ghost use Rattle.star.specs.Refusals.{firstAbove};
+
+// What the t-th pair of a line has.
+pub fn on_line(n: usize, table: &[u32], line: usize, t: usize) -> u32
+    requires { ⌜ Square n (now table) ⌝ }
+    requires { ⌜ (line < 2 * n) × (t < n) ⌝ }
+    ensures { λ r. ⌜ r ≡ onLine n (now (table .entry)) line t ⌝ }
+{
+    if line < n {
+        get(n, table, line, t)
+    } else {
+        get(n, table, t, line - n)
+    }
+}
+
+// The sum of a line of demands.
+pub fn line_sum(n: usize, demand: &[u32], line: usize) -> u32
+    requires { ⌜ Square n (now demand) ⌝ }
+    requires { ⌜ Demands n (now demand) ⌝ }
+    requires { ⌜ line < 2 * n ⌝ }
+    ensures { λ r. ⌜ (r ≡ lineSum n (now (demand .entry)) line) × (r ≤ 4194240) ⌝ }
+{
+    let mut sum: u32 = 0;
+    let mut t = 0;
+    while t < n {
+        sum += on_line(n, demand, line, t);
+        t += 1;
+    }
+    sum
+}
+
+// The slack of a line: its capacity minus its sum.
+pub fn slack(capacity: u32, sum: u32) -> i32
+    requires { ⌜ (capacity ≤ 1024) × (sum ≤ 4194240) ⌝ }
+    ensures { λ r. ⌜ r ≡ subℕ capacity sum ⌝ }
+{
+    capacity as i32 - sum as i32
+}
+
+// The excess of a line with this slack: minus the slack where that is negative, and 0 elsewhere.
+pub fn excess(slack: i32) -> u32
+    requires { ⌜ mag slack < 4194240 ⌝ }
+    ensures { λ r. ⌜ r ≡ excessOf slack ⌝ }
+{
+    if slack < 0 { (-slack) as u32 } else { 0 }
+}
+
+// The first demand above 65,535 in row order, or n * n.
+pub fn first_above(n: usize, demand: &[u32]) -> usize
+    requires { ⌜ Square n (now demand) ⌝ }
+    ensures { λ r. ⌜ r ≡ firstAbove n (now (demand .entry)) ⌝ }
+{
+    let mut found = n * n;
+    let mut i = 0;
+    'rows: while i < n {
+        let mut j = 0;
+        while j < n {
+            if get(n, demand, i, j) > 65535 {
+                found = i * n + j;
+                break 'rows;
+            }
+            j += 1;
+        }
+        i += 1;
+    }
+    found
+}
