@@ -1,3 +1,4 @@
--- The laws of lines and slacks.
+-- The laws of lines, slacks and refusals.
 pub mod SignedLaws
 pub mod LineLaws
+pub mod RefusalLaws

@@ -44,7 +44,7 @@ verdictPlace Accepted = 0
 verdictPlace (Refused r) = refusalPlace r
 
 -- The first that fires is given: a check's refusal where it fires, and else what the later checks give.
-abbrev pub refuse : Bool → Refusal → Verdict → Verdict
+unfoldable pub refuse : Bool → Refusal → Verdict → Verdict
 refuse true r later = Refused r
 refuse false r later = later
 

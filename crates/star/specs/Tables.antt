@@ -1,4 +1,4 @@
--- What the functions on tables ask: a square table of n nodes that is long enough, and demands within their range.
+-- What the functions on tables ask: a square table of n nodes that is long enough, demands and capacities within their range.
 use Prim.Native.Nat.{ℕ, _*_, _≤_, _<_}
 use mathlib.Core.List.{List}
 use lib.ListN.{length, getD}
@@ -11,3 +11,8 @@ pub record Square (n : ℕ) (d : List ℕ) : Type 0 where
 -- one demand or arrival: 0 to 65,535
 pub record Demands (n : ℕ) (d : List ℕ) : Type 0 where
   pub most : (p : ℕ) → p < n * n → getD d p 0 ≤ 65535
+
+-- a capacity for each of the 2N lines, at most 1,024
+pub record Capacities (n : ℕ) (cap : List ℕ) : Type 0 where
+  pub lines : 2 * n ≤ length cap
+  pub most : (ℓ : ℕ) → ℓ < 2 * n → getD cap ℓ 0 ≤ 1024
