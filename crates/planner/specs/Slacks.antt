@@ -1,5 +1,6 @@
 -- The entry `slacks`: which refusal it gives, in which order, and what its table then holds.
 use Prim.Native.Nat.{ℕ, _*_}
+use mathlib.Core.Path.{_≡_}
 use mathlib.Core.List.{List}
 use lib.ListN.{length}
 use lib.IntN.{ℤ}
@@ -24,3 +25,8 @@ slacksVerdict n l d room =
 unfoldable pub slacksAfter : (v : Verdict) (n l : ℕ) (d : List ℕ) (table : List ℤ) → List ℤ
 slacksAfter Accepted n l d table = written (2 * n) (tab (2 * n) (slack n (wholeFrame n l) d)) table
 slacksAfter (Refused r) n l d table = table
+
+-- What `slacks` promises for every input: the table lent, what it holds at exit, and the answer.
+pub record SlacksResult (n l : ℕ) (d : List ℕ) (table table' : List ℤ) (v : Verdict) : Type 0 where
+  pub answer : v ≡ slacksVerdict n l d (length table)
+  pub after : table' ≡ slacksAfter v n l d table

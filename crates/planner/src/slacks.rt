@@ -10,7 +10,7 @@ ghost use lib.ListN.{length};
 ghost use Rattle.sums.specs.Tables.{tab, written};
 ghost use Rattle.star.specs.Tables.{Square, Demands, Capacities};
 ghost use Rattle.star.specs.Lines.{slack};
-ghost use Rattle.planner.specs.Slacks.{slacksVerdict, slacksAfter};
+ghost use Rattle.planner.specs.Slacks.{SlacksResult};
 
 // Writes the slack of each line, given the capacity of each.
 fn fill(n: usize, cap: &[u32], demand: &[u32], table: &mut [i32])
@@ -29,8 +29,7 @@ fn fill(n: usize, cap: &[u32], demand: &[u32], table: &mut [i32])
 // The slack of each line, rows first, to a table of 2N cells. Refused, in this order: N (1), L (2), a short demand (4), a short table (5),
 // a demand above 65,535 (6); then nothing is written.
 pub fn slacks(nodes: u32, slots: u32, demand: &[u32], table: &mut [i32]) -> Verdict
-    ensures { λ v. ⌜ v ≡ slacksVerdict nodes slots (now (demand .entry)) (length (now (table .entry))) ⌝ }
-    ensures { λ v. ⌜ now (table .exit) ≡ slacksAfter v nodes slots (now (demand .entry)) (now (table .entry)) ⌝ }
+    ensures { λ v. ⌜ SlacksResult nodes slots (now (demand .entry)) (now (table .entry)) (now (table .exit)) v ⌝ }
 {
     if nodes < 1 {
         return Verdict::Refused {
@@ -67,9 +66,7 @@ pub fn slacks(nodes: u32, slots: u32, demand: &[u32], table: &mut [i32]) -> Verd
     let above = first_above(n, demand);
     if above < n * n {
         return Verdict::Refused {
-            refusal: Refusal::DemandAbove {
-                cell: above as u32,
-            },
+            refusal: Refusal::DemandAbove { cell: above as u32 },
         };
     }
     let cap = [slots; 128];

@@ -4,15 +4,15 @@ use native.Mathlib.Omega.{arith}
 use mathlib.Core.Path.{_≡_, refl, sym, _∙_, ap, ap₂}
 use mathlib.Core.Bool.{Bool, true, false}
 use mathlib.Core.List.{List}
-use lib.ListN.{getD, length-replicate, getD-replicate}
+use lib.ListN.{getD, take, replicate, length-replicate, getD-replicate}
 use lib.Dec.{ltb}
 use borrow.Author.Tests.{lt-ltb, le-ltb}
 use Rattle.sums.specs.Sums.{sumTo}
 use Rattle.sums.specs.Tables.{cell}
 use Rattle.sums.proofs.Sums.{sum-ext, sum-swap}
 use Rattle.sums.proofs.Cases.{by-lt}
-use Rattle.sums.proofs.Tables.{cell-lt}
-use Rattle.star.specs.Tables.{Demands}
+use Rattle.sums.proofs.Tables.{cell-lt, take-replicate}
+use Rattle.star.specs.Tables.{Demands, Capacities}
 use Rattle.star.specs.Lines.{sourceOn, destinationOn, onLine, lineSum, total, wholeFrame, slack, overflows, excess}
 use Rattle.star.proofs.SignedLaws.{excess-of-sub, negative-sub}
 
@@ -69,6 +69,15 @@ total-columns n d = sum-swap n n (cell n d) ∙ sum-ext n _ _ (λ j p. sym (colu
 pub capacity : (n l ℓ : ℕ) → ℓ < 2 * n → getD (wholeFrame n l) ℓ 0 ≡ l
 unfolding wholeFrame
 capacity n l ℓ h = getD-replicate (2 * n) ℓ l 0 h
+
+-- a table of 128 cells that all hold L begins with the 2N capacities
+pub whole-frame : (n l : ℕ) → n ≤ 64 → take (2 * n) (replicate 128 l) ≡ wholeFrame n l
+unfolding wholeFrame
+whole-frame n l h = take-replicate (2 * n) 128 l (omega arith)
+
+pub whole-frame-fits : (n l : ℕ) → l ≤ 1024 → Capacities n (wholeFrame n l)
+unfolding wholeFrame
+whole-frame-fits n l h = record { lines = omega (arith, length-replicate (2 * n) l); most = λ ℓ p. omega (arith, getD-replicate (2 * n) ℓ l 0 p) }
 
 pub excess-is : (n : ℕ) (cap d : List ℕ) (ℓ : ℕ) → excess n cap d ℓ ≡ lineSum n d ℓ - getD cap ℓ 0
 unfolding excess slack

@@ -9,10 +9,11 @@ use lib.Dec.{ltb}
 use borrow.Author.Tests.{lt-ltb, le-ltb, ltb-false}
 use Rattle.sums.proofs.Searches.{first-before}
 use Rattle.star.specs.declared.refusals.Refusal.{Refusal}
+use Rattle.star.specs.declared.refusals.Refusal.the-variants.{Nodes, Slots}
 use Rattle.star.specs.declared.refusals.Verdict.{Verdict}
-use Rattle.star.specs.declared.refusals.Verdict.the-variants.{Accepted, Refused}
+use Rattle.star.specs.declared.refusals.Verdict.the-variants.{Refused}
 use Rattle.star.specs.Tables.{Demands}
-use Rattle.star.specs.Refusals.{refuse, outside, firstAbove}
+use Rattle.star.specs.Refusals.{refuse, outside, nodesOut, slotsOut, firstAbove}
 
 pub fires : {b : Bool} {r : Refusal} (later : Verdict) → b ≡ true → Refused r ≡ refuse b r later
 unfolding refuse
@@ -31,6 +32,10 @@ too-high low high x h k = simp (le-ltb x low h, lt-ltb high x k)
 
 pub inside : (low high x : ℕ) → low ≤ x → x ≤ high → outside low high x ≡ false
 inside low high x h k = simp (le-ltb x low h, le-ltb high x k)
+
+-- N and L are within their ranges
+pub in-range : (n l : ℕ) {v later : Verdict} → 1 ≤ n → n ≤ 64 → 1 ≤ l → l ≤ 1024 → v ≡ later → v ≡ refuse (nodesOut n) Nodes (refuse (slotsOut l) Slots later)
+in-range n l n1 n64 l1 l1024 h = passes Nodes (inside 1 64 n n1 n64) (passes Slots (inside 1 1024 l l1 l1024) h)
 
 -- ---- one of several tests
 pub first-of : (a b : Bool) → a ≡ true → (a || b) ≡ true

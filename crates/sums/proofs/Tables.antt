@@ -6,7 +6,7 @@ use native.Mathlib.Omega.{arith}
 use mathlib.Core.Path.{_≡_, refl, sym, _∙_, ap}
 use mathlib.Core.List.{List, [], _∷_, _++_, append-assoc}
 use lib.Arith.{digits-lt, digits-div, digits-mod}
-use lib.ListN.{length, getD, take, drop, set, length-append, length-set, List·getD-append}
+use lib.ListN.{length, getD, take, drop, set, replicate, length-append, List·getD-append}
 use lib.Seq.{drop-cons, set-at, ext-getD, getD-set-same, getD-set-other, getD-append-add, getD-append-seam, getD-drop, drop-at, take-at}
 use Rattle.sums.specs.Tables.{cell, tab, square, written}
 use Rattle.sums.proofs.Cases.{by-eq}
@@ -110,3 +110,9 @@ module _ (m : ℕ) (new old : List ℕ) (fits : length new ≡ m) where
 pub written-cell : (n : ℕ) (new old : List ℕ) → length new ≡ n * n → (i j : ℕ) → i < n → j < n → cell n (written (n * n) new old) i j ≡ cell n new i j
 unfolding cell
 written-cell n new old fits i j hi hj = written-at (n * n) new old fits (i * n + j) (cell-lt n i j hi hj)
+
+-- the first cells of a table that holds one number throughout
+pub take-replicate : {A : Type 0} (m k : ℕ) (x : A) → m ≤ k → take m (replicate k x) ≡ replicate m x
+take-replicate zero k x h = refl
+take-replicate (suc m) zero x h = absurd (omega arith)
+take-replicate (suc m) (suc k) x h = ap (λ l. x ∷ l) (take-replicate m k x (omega arith))

@@ -1,0 +1,2 @@
+-- What an exported entry reports.
+pub mod Reports
