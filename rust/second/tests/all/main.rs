@@ -1,0 +1,9 @@
+//! The second program against document 01.
+
+mod notation;
+
+mod chance;
+mod matrix_text;
+mod readings;
+mod tiny;
+mod worked;
