@@ -36,12 +36,3 @@ pub fn by_second<T>(answer: Result<T, second::refusal::Refusal>) -> Answer {
 pub fn by_library<T>(answer: Result<T, gyodaebeun::Refusal>) -> Answer {
     answer.map_or_else(|refusal| (refusal.number(), refusal.place()), |_| (0, 0))
 }
-
-/// Every choice among these faults, none and all of them included, each in the order given.
-pub fn choices(faults: &[u32]) -> impl Iterator<Item = Vec<u32>> {
-    (0..1_u32 << faults.len()).map(|bits| {
-        let chosen = |&(index, _): &(usize, &u32)| bits >> index & 1 == 1;
-        let faults = faults.iter().enumerate().filter(chosen);
-        faults.map(|(_, &fault)| fault).collect()
-    })
-}

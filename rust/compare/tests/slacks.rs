@@ -1,10 +1,10 @@
 //! The entry `slacks`: the proved library and the second program, answer by answer and cell by
 //! cell.
 
-use compare::{Answer, Lent, by_library, by_second, choices};
+use compare::{Answer, Lent, by_library, by_second};
 use gyodaebeun::{Refusal, raw};
+use second::inputs::{FAMILIES, Random, choices};
 use second::plan;
-use second::random::{FAMILIES, Random};
 
 /// What the entry is called with; `slacks` is the table before the call.
 #[derive(Clone, Debug)]

@@ -4,15 +4,15 @@ use std::collections::VecDeque;
 
 use crate::matrix::Matrix;
 
-/// A largest matrix below `bound` whose line sums stay within `limit`: one vertex per line, a
+/// A largest matrix below `bound` whose line sums stay within `capacity`: one vertex per line, a
 /// start that feeds the rows and an end that takes from the columns.
-pub fn largest(bound: &Matrix, limit: &[i64]) -> Matrix {
+pub fn largest(bound: &Matrix, capacity: &[i64]) -> Matrix {
     let n = bound.nodes();
     let (start, end) = (2 * n, 2 * n + 1);
     let mut room = vec![vec![0; 2 * n + 2]; 2 * n + 2];
     for i in 0..n {
-        room[start][i] = limit[i];
-        room[n + i][end] = limit[n + i];
+        room[start][i] = capacity[i];
+        room[n + i][end] = capacity[n + i];
     }
     for (i, j) in bound.pairs() {
         room[i][n + j] = bound.at((i, j));
@@ -31,15 +31,15 @@ fn push_all(room: &mut [Vec<i64>], start: usize, end: usize) {
     let count = room.len();
     let mut height = vec![0; count];
     let mut stored = vec![0; count];
-    let mut waiting = VecDeque::new();
+    let mut active = VecDeque::new();
     height[start] = count;
     stored[start] = room[start].iter().sum();
     for v in 0..count {
         if push(room, &mut stored, start, v) {
-            waiting.push_back(v);
+            active.push_back(v);
         }
     }
-    while let Some(u) = waiting.pop_front() {
+    while let Some(u) = active.pop_front() {
         while stored[u] > 0 {
             for v in 0..count {
                 let was_empty = stored[v] == 0;
@@ -49,7 +49,7 @@ fn push_all(room: &mut [Vec<i64>], start: usize, end: usize) {
                     && v != start
                     && v != end
                 {
-                    waiting.push_back(v);
+                    active.push_back(v);
                 }
             }
             if stored[u] > 0 {

@@ -19,29 +19,29 @@ pub fn plan(
     let withdrawn = Matrix::read(n, &written.withdrawn);
     let bytes = &written.schedule[..slots * n];
     if rule == limits::FAIR {
-        demand_that(
+        require(
             withdrawn == Matrix::zero(n),
             "fair, yet slots are withdrawn",
         )?;
-        demand_that(kept == fair::kept(demand, &capacity), "not the fair cut")?;
+        require(kept == fair::kept(demand, &capacity), "not the fair cut")?;
     } else {
         let greatest = least::is_greatest(demand, &capacity, &withdrawn);
-        demand_that(greatest, "withdrawn is not a greatest one")?;
+        require(greatest, "withdrawn is not a greatest one")?;
         let follows = kept == least::kept_from(demand, &capacity, &withdrawn);
-        demand_that(follows, "kept does not follow from demand and withdrawn")?;
+        require(follows, "kept does not follow from demand and withdrawn")?;
     }
-    demand_that(kept.is_below(demand), "more kept than asked")?;
-    demand_that(kept.is_admissible(&capacity), "kept is not admissible")?;
-    demand_that(schedule::is_conflict_free(n, bytes), "a conflict in a slot")?;
-    demand_that(schedule::counts(n, bytes) == kept, "not the kept slots")?;
+    require(kept.is_below(demand), "more kept than asked")?;
+    require(kept.is_admissible(&capacity), "kept is not admissible")?;
+    require(schedule::is_conflict_free(n, bytes), "a conflict in a slot")?;
+    require(schedule::counts(n, bytes) == kept, "not the kept slots")?;
     let refused = demand.total() - kept.total();
-    demand_that(i64::from(totals.kept) == kept.total(), "wrong kept total")?;
-    demand_that(i64::from(totals.refused) == refused, "wrong refused total")?;
+    require(i64::from(totals.kept) == kept.total(), "wrong kept total")?;
+    require(i64::from(totals.refused) == refused, "wrong refused total")?;
     let changes = schedule::reconfigurations(n, bytes);
     let counted = totals.reconfigurations as usize == changes;
-    demand_that(counted, "wrong reconfigurations")
+    require(counted, "wrong reconfigurations")
 }
 
-fn demand_that(holds: bool, otherwise: &'static str) -> Result<(), &'static str> {
+fn require(holds: bool, otherwise: &'static str) -> Result<(), &'static str> {
     if holds { Ok(()) } else { Err(otherwise) }
 }

@@ -21,4 +21,4 @@ pub mod plan;
 pub mod refusal;
 pub mod run;
 
-pub mod random;
+pub mod inputs;

@@ -2,11 +2,11 @@
 
 use crate::notation::{Demand, planned, tables};
 use second::fair;
+use second::inputs::{FAMILIES, Random};
 use second::judge;
 use second::least;
 use second::limits::{FAIR, LEAST};
 use second::matrix::{Matrix, full_capacity};
-use second::random::{FAMILIES, Random};
 use second::run::{self, Books, Record};
 use second::schedule;
 

@@ -4,6 +4,7 @@ mod notation;
 
 mod chance;
 mod matrix_text;
+mod order;
 mod readings;
 mod tiny;
 mod worked;

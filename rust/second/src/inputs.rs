@@ -1,4 +1,4 @@
-//! Random numbers that can be repeated, and families of demands.
+//! Inputs for tests: random numbers that can be repeated, families of demands, faults together.
 
 use std::env;
 use std::time::{SystemTime, UNIX_EPOCH};
@@ -64,6 +64,14 @@ impl Random {
     pub fn demand(&mut self, n: usize, slots: u32) -> Vec<u32> {
         let (_, family) = self.pick(&FAMILIES);
         family(self, n, slots)
+    }
+
+    fn permutation(&mut self, n: usize) -> Vec<usize> {
+        let mut order: Vec<usize> = (0..n).collect();
+        for last in (1..n).rev() {
+            order.swap(last, self.below(last + 1));
+        }
+        order
     }
 }
 
@@ -158,16 +166,6 @@ pub const FAMILIES: [(&str, Family); 12] = [
     }),
 ];
 
-impl Random {
-    fn permutation(&mut self, n: usize) -> Vec<usize> {
-        let mut order: Vec<usize> = (0..n).collect();
-        for last in (1..n).rev() {
-            order.swap(last, self.below(last + 1));
-        }
-        order
-    }
-}
-
 fn cells(n: usize, mut cell: impl FnMut(usize, usize) -> u32) -> Vec<u32> {
     let pairs = (0..n).flat_map(|i| (0..n).map(move |j| (i, j)));
     pairs.map(|(i, j)| cell(i, j)).collect()
@@ -176,4 +174,13 @@ fn cells(n: usize, mut cell: impl FnMut(usize, usize) -> u32) -> Vec<u32> {
 /// Twice a pair's even share of a line: drawn uniformly, a line then asks for L on average.
 fn share(n: usize, slots: u32) -> u32 {
     2 * slots / n as u32 + 1
+}
+
+/// Every choice among these faults, none and all of them included, each in the order given.
+pub fn choices(faults: &[u32]) -> impl Iterator<Item = Vec<u32>> {
+    (0..1_u32 << faults.len()).map(|bits| {
+        let chosen = |&(index, _): &(usize, &u32)| bits >> index & 1 == 1;
+        let faults = faults.iter().enumerate().filter(chosen);
+        faults.map(|(_, &fault)| fault).collect()
+    })
 }
