@@ -6,5 +6,6 @@ mod chance;
 mod matrix_text;
 mod order;
 mod readings;
+mod schedules;
 mod tiny;
 mod worked;
