@@ -44,9 +44,9 @@ pub enum Holds {
 impl Call<'_> {
     /// "The first that fires is given."
     pub fn check(&self, apply: &[u32]) -> Result<(), Refusal> {
-        let order = ORDER.into_iter().filter(|number| apply.contains(number));
+        let mut order = ORDER.into_iter().filter(|number| apply.contains(number));
         let fires = |number| self.place(number).map(|place| Refusal { number, place });
-        order.map(fires).find_map(|fired| fired).map_or(Ok(()), Err)
+        order.find_map(fires).map_or(Ok(()), Err)
     }
 
     /// The place of a refusal, if its check fires. The checks of tables come after those of N and L.
