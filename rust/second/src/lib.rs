@@ -1,0 +1,24 @@
+//! The planner for star networks, written a second time from document 01 and by other means than
+//! the proved library: wide integers, sums taken anew, explicit sets, and a flow over the whole
+//! star where the library withdraws at the critical pairs. It is meant to be compared with, so it
+//! is plain before it is fast.
+//!
+//! Read in this order: the words of the paper, the two rules, schedules, the entries.
+
+pub mod limits;
+pub mod matrix;
+
+pub mod fair;
+pub mod flow;
+pub mod fraction;
+pub mod least;
+
+pub mod schedule;
+
+pub mod judge;
+pub mod matrix_text;
+pub mod plan;
+pub mod refusal;
+pub mod run;
+
+pub mod inputs;
