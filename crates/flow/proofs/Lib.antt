@@ -1,0 +1,3 @@
+-- The laws of matrices below bounds and limits.
+pub mod Duality
+pub mod Check
