@@ -9,7 +9,7 @@ use lib.Dec.{ltb}
 use borrow.Author.Tests.{lt-ltb, le-ltb}
 use Rattle.sums.specs.Sums.{sumTo}
 use Rattle.sums.specs.Tables.{cell}
-use Rattle.sums.proofs.Sums.{sum-ext, sum-swap}
+use Rattle.sums.proofs.Sums.{sum-ext, sum-swap, sum-all-zero}
 use Rattle.sums.proofs.Cases.{by-lt}
 use Rattle.sums.proofs.Tables.{cell-lt, take-replicate}
 use Rattle.star.specs.Tables.{Demands, Capacities}
@@ -56,6 +56,11 @@ module _ (n : ℕ) (d e : List ℕ) (same : (i j : ℕ) → i < n → j < n → 
   pub total-ext : total n d ≡ total n e
   unfolding total
   total-ext = sum-ext n _ _ (λ i p. sum-ext n _ _ (λ j q. same i j p q))
+
+-- a matrix of zeros has line sums 0
+pub line-zero : (n : ℕ) (d : List ℕ) → ((i j : ℕ) → i < n → j < n → cell n d i j ≡ 0) → (ℓ : ℕ) → ℓ < 2 * n → lineSum n d ℓ ≡ 0
+unfolding lineSum onLine
+line-zero n d zeros ℓ h = sum-all-zero n _ (λ t p. zeros _ _ (source-lt n ℓ t h p) (destination-lt n ℓ t h p))
 
 pub total-rows : (n : ℕ) (d : List ℕ) → total n d ≡ sumTo n (λ i. lineSum n d i)
 unfolding total

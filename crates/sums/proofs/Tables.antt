@@ -7,7 +7,7 @@ use mathlib.Core.Path.{_≡_, refl, sym, _∙_, ap}
 use mathlib.Core.List.{List, [], _∷_, _++_, append-assoc}
 use lib.Arith.{digits-lt, digits-div, digits-mod}
 use lib.ListN.{length, getD, take, drop, set, replicate, length-append, List·getD-append}
-use lib.Seq.{drop-cons, set-at, ext-getD, getD-set-same, getD-set-other, getD-append-add, getD-append-seam, getD-drop, drop-at, take-at}
+use lib.Seq.{drop-cons, set-at, ext-getD, getD-set-same, getD-set-other, getD-append-seam, getD-take, drop-at, take-at}
 use Rattle.sums.specs.Tables.{cell, tab, square, written}
 use Rattle.sums.proofs.Cases.{by-eq}
 
@@ -110,6 +110,11 @@ module _ (m : ℕ) (new old : List ℕ) (fits : length new ≡ m) where
 pub written-cell : (n : ℕ) (new old : List ℕ) → length new ≡ n * n → (i j : ℕ) → i < n → j < n → cell n (written (n * n) new old) i j ≡ cell n new i j
 unfolding cell
 written-cell n new old fits i j hi hj = written-at (n * n) new old fits (i * n + j) (cell-lt n i j hi hj)
+
+-- a table whose first n * n cells are known has their pairs
+pub take-cell : (n : ℕ) (t new : List ℕ) → take (n * n) t ≡ new → (i j : ℕ) → i < n → j < n → cell n t i j ≡ cell n new i j
+unfolding cell
+take-cell n t new e i j hi hj = sym (getD-take (n * n) t (i * n + j) 0 (cell-lt n i j hi hj)) ∙ ap (λ x. getD x (i * n + j) 0) e
 
 -- the first cells of a table that holds one number throughout
 pub take-replicate : {A : Type 0} (m k : ℕ) (x : A) → m ≤ k → take m (replicate k x) ≡ replicate m x

@@ -1,1 +1,3 @@
-pub mod Tries
+-- The proof of the fourteen lines.
+pub mod Fairs
+pub mod Nothing

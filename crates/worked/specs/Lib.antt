@@ -1,1 +1,2 @@
--- The worked lines.
+-- The fourteen worked lines of document 01.
+pub mod Worked

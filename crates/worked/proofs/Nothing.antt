@@ -1,0 +1,155 @@
+-- Where nothing is asked nothing is kept, every byte is idle and nothing changes, under either rule; and there is such a plan. No line exceeds, so
+-- neither rule cuts; a byte that named a source would count a slot for it. Assumes nothing.
+use Prim.Native.Nat.{ℕ, zero, suc, _+_, _-_, _*_, _≤_, _<_, zero-le}
+use native.Mathlib.Omega.{arith}
+use mathlib.Core.Path.{_≡_, refl, sym, _∙_, ap}
+use mathlib.Core.Logic.{⊎-elim, _⊎_, inl, inr}
+use mathlib.Core.Bool.{Bool, true, false, not, cond}
+use mathlib.Core.List.{List}
+use lib.ListN.{length, getD, take, replicate, length-replicate, getD-replicate}
+use lib.Arith.{digits-lt}
+use lib.Seq.{take-all}
+use lib.Dec.{ltb, eqb}
+use borrow.Author.Tests.{le-ltb, eq-eqb}
+use Rattle.sums.specs.Sums.{sumTo, bit, hit}
+use Rattle.sums.specs.Tables.{cell, square}
+use Rattle.sums.proofs.Sums.{sum-at, sum-all-zero, hit-same, hit-other}
+use Rattle.sums.proofs.Cases.{by-eq}
+use Rattle.sums.proofs.Searches.{some-none}
+use Rattle.sums.proofs.Tables.{cell-lt, square-cell, length-square, square-ext, take-cell}
+use Rattle.star.specs.Lines.{lineSum, total, wholeFrame, excess}
+use Rattle.star.specs.Schedules.{ConflictFree, Carries, count, differ, reconfigurations}
+use Rattle.star.proofs.LineLaws.{line-zero, excess-is, total-rows}
+use Rattle.fair.specs.Fair.{Cutting, fairKept, uncut, steps, step, taken, exceeds}
+use Rattle.least.specs.Least.{Withdrawn, Greatest, keptFrom, keptCell, left, longer}
+use Rattle.planner.specs.Plans.{Plan}
+use Rattle.worked.specs.Worked.{NothingAsked}
+
+-- ---- the fair rule, where no line exceeds
+module _ (n : ℕ) (cap d : List ℕ) (none : (ℓ : ℕ) → ℓ < 2 * n → exceeds n cap (uncut n d) ℓ ≡ false) where
+  none-taken : (m : ℕ) → m ≤ 2 * n → taken n cap (uncut n d) m ≡ 2 * n
+  unfolding taken
+  none-taken zero h = refl
+  none-taken (suc m) h = rw (none m (omega arith)) (none-taken m (omega arith))
+
+  stays : step n cap (uncut n d) ≡ uncut n d
+  unfolding step
+  stays = rw (none-taken (2 * n) (omega arith), le-ltb (2 * n) (2 * n) (omega arith)) refl
+
+  all-stay : (m : ℕ) → steps n cap (uncut n d) m ≡ uncut n d
+  unfolding steps
+  all-stay zero = refl
+  all-stay (suc m) = ap (step n cap) (all-stay m) ∙ stays
+
+  uncut-kept : fairKept n cap d ≡ square n (cell n d)
+  unfolding fairKept uncut
+  uncut-kept = ap (λ s. s .values) (all-stay (2 * n))
+
+module _ (n : ℕ) (cap d : List ℕ) (zeros : (i j : ℕ) → i < n → j < n → cell n d i j ≡ 0) where
+  uncut-nothing : (ℓ : ℕ) → ℓ < 2 * n → exceeds n cap (uncut n d) ℓ ≡ false
+  unfolding exceeds uncut
+  uncut-nothing ℓ h =
+      le-ltb (getD cap ℓ 0) (lineSum n (square n (cell n d)) ℓ)
+      (omega (arith, line-zero n (square n (cell n d)) (λ i j p q. square-cell n (cell n d) i j p q ∙ zeros i j p q) ℓ h))
+
+  fair-length : length (fairKept n cap d) ≡ n * n
+  fair-length = ap length (uncut-kept n cap d uncut-nothing) ∙ length-square n (cell n d)
+
+  fair-nothing : (i j : ℕ) → i < n → j < n → cell n (fairKept n cap d) i j ≡ 0
+  fair-nothing i j hi hj = ap (λ k. cell n k i j) (uncut-kept n cap d uncut-nothing) ∙ square-cell n (cell n d) i j hi hj ∙ zeros i j hi hj
+
+  left-nothing : (a : List ℕ) (i j : ℕ) → i < n → j < n → cell n (left n d a) i j ≡ 0
+  unfolding left
+  left-nothing a i j hi hj = square-cell n (λ i j. cell n d i j - cell n a i j) i j hi hj ∙ omega (arith, zeros i j hi hj)
+
+  not-longer : (a : List ℕ) (ℓ : ℕ) → ℓ < 2 * n → longer n cap (left n d a) ℓ ≡ false
+  unfolding longer
+  not-longer a ℓ h = le-ltb (getD cap ℓ 0) (lineSum n (left n d a) ℓ) (omega (arith, line-zero n (left n d a) (left-nothing a) ℓ h))
+
+  least-nothing : (a : List ℕ) (i j : ℕ) → i < n → j < n → cell n (keptFrom n cap d a) i j ≡ 0
+  unfolding keptFrom keptCell
+  least-nothing a i j hi hj =
+      square-cell n (keptCell n cap (left n d a)) i j hi hj
+      ∙ rw (not-longer a i (omega arith), not-longer a (n + j) (omega arith), keptCell) (left-nothing a i j hi hj)
+
+kept-length : (n : ℕ) (cap d a : List ℕ) → length (keptFrom n cap d a) ≡ n * n
+unfolding keptFrom
+kept-length n cap d a = length-square n (keptCell n cap (left n d a))
+
+-- ---- the schedule
+-- a byte that names a source counts a slot for it
+named-counts : (n l : ℕ) (s : List ℕ) (k j : ℕ) → k < l → 1 ≤ count n l s (cell n s k j) j
+unfolding count
+named-counts n l s k j h = omega (arith, hit-same {a = cell n s k j} refl, sum-at l (λ k'. hit (cell n s k' j) (cell n s k j)) k h)
+
+module _ (n l : ℕ) (s k : List ℕ) (c : Carries n l s k) (zeros : (i j : ℕ) → i < n → j < n → cell n k i j ≡ 0) where
+  idle : (m j : ℕ) → m < l → j < n → cell n s m j ≡ 255
+  idle m j hm hj =
+      ⊎-elim
+      (λ (h : cell n s m j < n). absurd (omega (arith, named-counts n l s m j hm, c .exact (cell n s m j) j h hj, zeros (cell n s m j) j h hj)))
+      (λ e. e)
+      (c .free .heard m j hm hj)
+
+  unchanged : reconfigurations n l s ≡ 0
+  unfolding reconfigurations differ
+  unchanged = sum-all-zero (l - 1) _ (λ m h. ap bit (some-none _ n (λ j hj. ap not (eq-eqb _ _ (idle m j (omega arith) hj ∙ sym (idle (suc m) j (omega arith) hj))))))
+
+-- ---- a plan of nothing
+zeros-cell : (n i j : ℕ) → i < n → j < n → cell n (replicate (n * n) 0) i j ≡ 0
+unfolding cell
+zeros-cell n i j hi hj = getD-replicate (n * n) (i * n + j) 0 0 (cell-lt n i j hi hj)
+
+idle-cell : (n l k j : ℕ) → k < l → j < n → cell n (replicate (l * n) 255) k j ≡ 255
+unfolding cell
+idle-cell n l k j hk hj = getD-replicate (l * n) (k * n + j) 255 0 (digits-lt hk hj)
+
+all-zeros : (n : ℕ) (t : List ℕ) → length t ≡ n * n → ((i j : ℕ) → i < n → j < n → cell n t i j ≡ 0) → take (n * n) (replicate (n * n) 0) ≡ t
+all-zeros n t fits zeros =
+    take-all (n * n) (replicate (n * n) 0) (omega (arith, length-replicate {A = ℕ} (n * n) 0))
+    ∙ square-ext n (replicate (n * n) 0) t (length-replicate (n * n) 0) fits (λ i j p q. zeros-cell n i j p q ∙ sym (zeros i j p q))
+
+module _ (n l : ℕ) (cap d : List ℕ) (n64 : n ≤ 64) (zeros : (i j : ℕ) → i < n → j < n → cell n d i j ≡ 0) where
+  carries : Carries n l (replicate (l * n) 255) (replicate (n * n) 0)
+  unfolding count
+  carries = record {
+    free = record {
+      heard = λ k j p q. inr (idle-cell n l k j p q);
+      once = λ k j v p q r h e. absurd (omega (arith, idle-cell n l k j p q));
+    };
+    exact = λ i j p q. sum-all-zero l _ (λ k h. hit-other {a = cell n (replicate (l * n) 255) k j} (λ e. omega (arith, idle-cell n l k j h q))) ∙ sym (zeros-cell n i j p q);
+  }
+
+  total-nothing : (b : List ℕ) → ((i j : ℕ) → i < n → j < n → cell n b i j ≤ cell n d i j) → total n b ≡ 0
+  unfolding total
+  total-nothing b below = sum-all-zero n _ (λ i p. sum-all-zero n _ (λ j q. omega (arith, below i j p q, zeros i j p q)))
+
+  greatest : Greatest n cap d (replicate (n * n) 0)
+  greatest = record {
+    withdrawn = record {
+      off = λ i j p q e. zeros-cell n i j p q;
+      below = λ i j p q. omega (arith, zeros-cell n i j p q);
+      lines = λ ℓ h. omega (arith, line-zero n (replicate (n * n) 0) (zeros-cell n) ℓ h);
+    };
+    most = λ b w. omega (arith, total-nothing b (w .below));
+  }
+
+pub nothing : (n l rule : ℕ) (d : List ℕ) → 1 ≤ n → n ≤ 64 → 1 ≤ l → l ≤ 1024 → rule ≤ 1 → ((i j : ℕ) → i < n → j < n → cell n d i j ≡ 0) → NothingAsked n l rule d
+nothing n l rule d n1 n64 l1 l1024 known zeros = record {
+  keeps = λ k a s p. kept k a s p;
+  idles = λ k a s p. idle n l s k (p .carried) (kept k a s p);
+  stays = λ k a s p. unchanged n l s k (p .carried) (kept k a s p);
+  planned = record {
+    fair = λ e. (all-zeros n (fairKept n cap d) (fair-length n cap d zeros) (fair-nothing n cap d zeros), take-all (n * n) (replicate (n * n) 0) (omega (arith, length-replicate {A = ℕ} (n * n) 0)));
+    least = λ e. (greatest n l cap d n64 zeros, all-zeros n (keptFrom n cap d (replicate (n * n) 0)) (kept-length n cap d (replicate (n * n) 0)) (least-nothing n cap d zeros (replicate (n * n) 0)));
+    carried = carries n l cap d n64 zeros;
+  };
+}
+  where
+    cap : List ℕ
+    cap = wholeFrame n l
+
+    kept : (k a s : List ℕ) → Plan n l rule (wholeFrame n l) d k a s → (i j : ℕ) → i < n → j < n → cell n k i j ≡ 0
+    kept k a s p i j hi hj =
+        by-eq rule 0
+        (λ e. take-cell n k (fairKept n (wholeFrame n l) d) (p .fair e .0) i j hi hj ∙ fair-nothing n (wholeFrame n l) d zeros i j hi hj)
+        (λ ne. take-cell n k (keptFrom n (wholeFrame n l) d a) (p .least (omega arith) .1) i j hi hj ∙ least-nothing n (wholeFrame n l) d zeros a i j hi hj)
