@@ -1,14 +1,15 @@
 -- A plan of a demand; the entry `plan`: which refusal it gives, in which order, what it reports, and what its tables then hold.
-use Prim.Native.Nat.{ℕ, _+_, _-_, _*_}
+use Prim.Native.Nat.{ℕ, _-_, _*_, _≤_, _<_}
 use mathlib.Core.Path.{_≡_}
 use mathlib.Core.Bool.{_||_}
 use mathlib.Core.List.{List}
-use lib.ListN.{length, take, drop, replicate}
+use lib.ListN.{length, getD, take, drop, replicate}
 use Rattle.star.specs.declared.refusals.Refusal.{Refusal}
 use Rattle.star.specs.declared.refusals.Refusal.the-variants.{Nodes, Slots, Rule, DemandShort, TableShort, DemandAbove}
 use Rattle.star.specs.declared.refusals.Verdict.{Verdict}
 use Rattle.star.specs.declared.refusals.Verdict.the-variants as verdict
 use Rattle.star.specs.Refusals.{refuse, nodesOut, slotsOut, ruleOut, short, someCell, firstAbove}
+use Rattle.star.specs.Tables.{Demands}
 use Rattle.star.specs.Lines.{total, wholeFrame}
 use Rattle.star.specs.Schedules.{Carries, reconfigurations}
 use Rattle.fair.specs.Fair.{fairKept}
@@ -62,6 +63,21 @@ pub record Wrote (n l rule : ℕ) (cap d kept withdrawn schedule kept' withdrawn
   pub kept-total : keptTotal r ≡ total n kept'
   pub refused-total : refusedTotal r ≡ total n d - total n kept'
   pub reconfigured : changes r ≡ reconfigurations n l schedule'
+
+-- what the work of a plan asks, once all checks have passed: numbers in their ranges, no capacity above L, and tables that are long enough
+pub record PlanRoom (n l rule : ℕ) (cap d kept withdrawn schedule : List ℕ) : Type 0 where
+  pub some-nodes : 1 ≤ n
+  pub nodes : n ≤ 64
+  pub some-slots : 1 ≤ l
+  pub slots : l ≤ 1024
+  pub known-rule : rule ≤ 1
+  pub demand : n * n ≤ length d
+  pub within : Demands n d
+  pub lines : 2 * n ≤ length cap
+  pub most : (ℓ : ℕ) → ℓ < 2 * n → getD cap ℓ 0 ≤ l
+  pub kept-room : n * n ≤ length kept
+  pub withdrawn-room : n * n ≤ length withdrawn
+  pub schedule-room : l * n ≤ length schedule
 
 -- What `plan` promises for every input: the tables lent, what they hold at exit, and the answer. A refusal writes nothing.
 pub record PlanResult (n l rule : ℕ) (d kept withdrawn schedule kept' withdrawn' schedule' : List ℕ) (r : Answer) : Type 0 where
