@@ -6,3 +6,5 @@ pub mod Remains
 pub mod Ranks
 pub mod Shares
 pub mod Keeping
+pub mod Counts
+pub mod LeastIsLeast
