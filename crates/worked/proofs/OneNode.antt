@@ -128,9 +128,9 @@ four-slots = record {
     once = λ k j v p q r h e. omega arith;
   };
   exact = λ i j p q.
-    let ei : i ≡ 0 = omega arith in
-    let ej : j ≡ 0 = omega arith in
-    rw (ei, ej) refl;
+      let ei : i ≡ 0 = omega arith in
+      let ej : j ≡ 0 = omega arith in
+      rw (ei, ej) refl;
 }
 
 -- a frame that sends four of x
@@ -168,12 +168,12 @@ pub one-node : RunLine 10 3 13 8 4 1
 unfolding freshVerdict freshRun cleared postVerdict postRun postPosted postDropped postWaiting frameVerdict refuse firstDisagreeing booksAgree firstBelow firstFrom firstAbove written tab
 one-node = record {
   ends = λ h₀ h₁ h₂ h₃ h₄ h₅ v₀ v₁ v₂ r₁ r₂ old w p s d begins k₁ a₁ s₁ k₁' a₁' s₁' k₂ a₂ s₂ k₂' a₂' s₂' hk₁ ha₁ hs₁ hk₂ ha₂ hs₂ fresh post₁ frame₁ post₂ frame₂.
-    let e₁ = fresh-step old w p s d h₀ h₁ v₀ begins fresh in
-    let e₂ = post-step 10 0 0 0 0 0 0 h₁ h₂ v₁ e₁ refl post₁ in
-    let e₃ = frame-step 6 2 1 0 10 0 4 h₂ h₃ r₁ k₁ a₁ s₁ k₁' a₁' s₁' e₂ (frame-accepted 6 1 0 10 0 4 k₁ a₁ s₁ hk₁ ha₁ hs₁ refl) refl six frame₁ in
-    let e₄ = post-step 3 1 1 2 10 4 4 h₃ h₄ v₂ e₃ refl post₂ in
-    let e₅ = frame-step 5 1 2 1 13 4 4 h₄ h₅ r₂ k₂ a₂ s₂ k₂' a₂' s₂' e₄ (frame-accepted 5 2 1 13 4 4 k₂ a₂ s₂ hk₂ ha₂ hs₂ refl) refl five frame₂ in
-    (ap (λ h. h .posted) e₅, ap (λ h. h .sent) e₅, ap (λ h. h .dropped) e₅, ap (λ h. h .waiting) e₅);
+      let e₁ = fresh-step old w p s d h₀ h₁ v₀ begins fresh in
+      let e₂ = post-step 10 0 0 0 0 0 0 h₁ h₂ v₁ e₁ refl post₁ in
+      let e₃ = frame-step 6 2 1 0 10 0 4 h₂ h₃ r₁ k₁ a₁ s₁ k₁' a₁' s₁' e₂ (frame-accepted 6 1 0 10 0 4 k₁ a₁ s₁ hk₁ ha₁ hs₁ refl) refl six frame₁ in
+      let e₄ = post-step 3 1 1 2 10 4 4 h₃ h₄ v₂ e₃ refl post₂ in
+      let e₅ = frame-step 5 1 2 1 13 4 4 h₄ h₅ r₂ k₂ a₂ s₂ k₂' a₂' s₂' e₄ (frame-accepted 5 2 1 13 4 4 k₂ a₂ s₂ hk₂ ha₂ hs₂ refl) refl five frame₂ in
+      (ap (λ h. h .posted) e₅, ap (λ h. h .sent) e₅, ap (λ h. h .dropped) e₅, ap (λ h. h .waiting) e₅);
   plays = λ old w p s d. (
     held (one 0 0) (0 ∷ []) (0 ∷ []) (0 ∷ []) (0 ∷ []),
     held (one 1 0) (6 ∷ []) (10 ∷ []) (0 ∷ []) (4 ∷ []),
