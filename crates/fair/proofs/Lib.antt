@@ -1,0 +1,4 @@
+-- The laws of the line-by-line cut.
+pub mod Crossings
+pub mod Fractions
+pub mod LineCuts
