@@ -33,3 +33,7 @@ pub floors-most : (n p q : ℕ) (g : ℕ → ℕ) → 0 < q → sumTo n g ≡ q 
 floors-most n p q g h e =
     let whole : sumTo n (λ t. g t * p / q) * q ≤ q * p = rw e at (floor-sum n p q g) in
     le-of-mul-le-mul-right {k = q} (omega arith) h
+
+-- p/a is at most q/b, and q/b at most r/c: so is p/a at most r/c
+pub fraction-trans : (p a q b r c : ℕ) → 0 < b → p * b ≤ q * a → q * c ≤ r * b → p * c ≤ r * a
+fraction-trans p a q b r c h k l = le-of-mul-le-mul-right {k = b} (omega (arith, mul-le-mul-right c k, mul-le-mul-right a l)) h

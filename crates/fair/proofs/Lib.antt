@@ -2,3 +2,5 @@
 pub mod Crossings
 pub mod Fractions
 pub mod LineCuts
+pub mod Choices
+pub mod Steps
