@@ -11,13 +11,8 @@ use borrow.Author.Tests.{lt-ltb, le-ltb, le-leb, lt-leb}
 use Rattle.sums.proofs.Cases.{by-eq, by-lt}
 use Rattle.star.specs.Lines.{lineSum}
 use Rattle.fair.specs.Fair.{Cutting, unmodifiedSum, numerator, exceeds, smaller, taken}
+use Rattle.fair.specs.Cuts.{Least}
 use Rattle.fair.proofs.Fractions.{fraction-trans}
-
--- of the lines below k that exceed, ℓ has a smallest fraction
-pub record Least (n : ℕ) (cap : List ℕ) (s : Cutting) (k ℓ : ℕ) : Type 0 where
-  pub line : ℓ < k
-  pub over : getD cap ℓ 0 < lineSum n (s .values) ℓ
-  pub least : (m : ℕ) → m < k → getD cap m 0 < lineSum n (s .values) m → numerator n cap s ℓ * unmodifiedSum n s m ≤ numerator n cap s m * unmodifiedSum n s ℓ
 
 -- no line below k exceeds
 pub record Quiet (n : ℕ) (cap : List ℕ) (s : Cutting) (k : ℕ) : Type 0 where

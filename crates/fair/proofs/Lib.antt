@@ -4,3 +4,6 @@ pub mod Fractions
 pub mod LineCuts
 pub mod Choices
 pub mod Steps
+pub mod Comparisons
+pub mod Stores
+pub mod Partway

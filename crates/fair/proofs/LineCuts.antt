@@ -31,23 +31,34 @@ loose n s i j = gate (not (modified n s i j)) (cell n (s .values) i j)
 unfoldable pub fixed : (n : ℕ) (s : Cutting) (i j : ℕ) → ℕ
 fixed n s i j = gate (modified n s i j) (cell n (s .values) i j)
 
+-- the same of the t-th pair of line m
+abbrev pub looseOn : (n : ℕ) (s : Cutting) (m t : ℕ) → ℕ
+looseOn n s m t = loose n s (sourceOn n m t) (destinationOn n m t)
+
+abbrev pub fixedOn : (n : ℕ) (s : Cutting) (m t : ℕ) → ℕ
+fixedOn n s m t = fixed n s (sourceOn n m t) (destinationOn n m t)
+
 module _ (n : ℕ) (s : Cutting) where
-  pub unmodified-is : (m : ℕ) → unmodifiedSum n s m ≡ sumTo n (λ t. loose n s (sourceOn n m t) (destinationOn n m t))
+  -- a cell is in one of the two sums
+  pub cell-split : (i j : ℕ) → cell n (s .values) i j ≡ fixed n s i j + loose n s i j
+  unfolding fixed loose
+  cell-split i j = gate-split (modified n s i j) (cell n (s .values) i j)
+
+  pub unmodified-is : (m : ℕ) → unmodifiedSum n s m ≡ sumTo n (λ t. looseOn n s m t)
   unfolding unmodifiedSum loose onLine
   unmodified-is m = refl
 
-  pub modified-is : (m : ℕ) → modifiedSum n s m ≡ sumTo n (λ t. fixed n s (sourceOn n m t) (destinationOn n m t))
+  pub modified-is : (m : ℕ) → modifiedSum n s m ≡ sumTo n (λ t. fixedOn n s m t)
   unfolding modifiedSum fixed onLine
   modified-is m = refl
 
   -- a line's sum is a + b
   pub line-split : (m : ℕ) → lineSum n (s .values) m ≡ unmodifiedSum n s m + modifiedSum n s m
-  unfolding lineSum unmodifiedSum modifiedSum
+  unfolding lineSum onLine
   line-split m =
-      sum-ext n _ _ (λ t h. omega (arith, gate-split (modified n s (sourceOn n m t) (destinationOn n m t)) (onLine n (s .values) m t)))
-      ∙ sum-add n
-      (λ t. gate (not (modified n s (sourceOn n m t) (destinationOn n m t))) (onLine n (s .values) m t))
-      (λ t. gate (modified n s (sourceOn n m t) (destinationOn n m t)) (onLine n (s .values) m t))
+      sum-ext n _ _ (λ t h. omega (arith, cell-split (sourceOn n m t) (destinationOn n m t)))
+      ∙ sum-add n (λ t. looseOn n s m t) (λ t. fixedOn n s m t)
+      ∙ sym (ap₂ _+_ (unmodified-is m) (modified-is m))
 
   -- the pairs of a line are modified where the line or the line that crosses there has been cut
   pub modified-on : (m t : ℕ) → modified n s (sourceOn n m t) (destinationOn n m t) ≡ (ltb 0 (getD (s .done) m 0) || ltb 0 (getD (s .done) (crossing n m t) 0))
@@ -55,8 +66,8 @@ module _ (n : ℕ) (s : Cutting) where
   modified-on m t = pair-lines n m t (λ x. ltb 0 (getD (s .done) x 0))
 
   -- an unmodified cell is at most the sum of those of each of its lines
-  pub loose-most : (m t : ℕ) → t < n → loose n s (sourceOn n m t) (destinationOn n m t) ≤ unmodifiedSum n s m
-  loose-most m t h = rw (unmodified-is m) (sum-at n (λ t. loose n s (sourceOn n m t) (destinationOn n m t)) t h)
+  pub loose-most : (m t : ℕ) → t < n → looseOn n s m t ≤ unmodifiedSum n s m
+  loose-most m t h = rw (unmodified-is m) (sum-at n (λ t. looseOn n s m t) t h)
 
 module _ (n : ℕ) (cap : List ℕ) (s : Cutting) (ℓ : ℕ) (at : ℓ < length (s .done)) where
   flag-after : (x : ℕ) → ltb 0 (getD (set (s .done) ℓ 1) x 0) ≡ (ltb 0 (getD (s .done) x 0) || eqb x ℓ)
@@ -84,21 +95,24 @@ module _ (n : ℕ) (cap : List ℕ) (s : Cutting) (ℓ : ℕ) (at : ℓ < length
       modified-on-cut : modified n (cutLine n cap s ℓ) i j ≡ true
       modified-on-cut = modified-after i j ∙ rw on (or-true (modified n s i j))
 
-      pub value-on-cut : cell n (cutLine n cap s ℓ .values) i j ≡ cond (modified n s i j) (cell n (s .values) i j) (cell n (s .values) i j * numerator n cap s ℓ / unmodifiedSum n s ℓ)
-      unfolding cutLine cutCell
-      value-on-cut = square-cell n (cutCell n cap s ℓ) i j hi hj ∙ rw on refl
-
-      pub loose-on-cut : loose n (cutLine n cap s ℓ) i j ≡ 0
-      unfolding loose
-      loose-on-cut = rw modified-on-cut refl
-
-      pub fixed-on-cut : fixed n (cutLine n cap s ℓ) i j ≡ fixed n s i j + loose n s i j * numerator n cap s ℓ / unmodifiedSum n s ℓ
-      unfolding fixed loose
-      fixed-on-cut = rw (modified-on-cut, value-on-cut) (go (modified n s i j))
+      pub value-on-cut : cell n (cutLine n cap s ℓ .values) i j ≡ fixed n s i j + loose n s i j * numerator n cap s ℓ / unmodifiedSum n s ℓ
+      unfolding cutLine cutCell fixed loose
+      value-on-cut = square-cell n (cutCell n cap s ℓ) i j hi hj ∙ rw on (go (modified n s i j))
         where
           go : (b : Bool) → cond b (cell n (s .values) i j) (cell n (s .values) i j * numerator n cap s ℓ / unmodifiedSum n s ℓ) ≡ gate b (cell n (s .values) i j) + gate (not b) (cell n (s .values) i j) * numerator n cap s ℓ / unmodifiedSum n s ℓ
           go true = omega (arith, floor-none (numerator n cap s ℓ) (unmodifiedSum n s ℓ))
           go false = omega arith
+
+      loose-on-cut : loose n (cutLine n cap s ℓ) i j ≡ 0
+      unfolding loose
+      loose-on-cut = rw modified-on-cut refl
+
+      all-fixed : fixed n (cutLine n cap s ℓ) i j ≡ cell n (cutLine n cap s ℓ .values) i j
+      unfolding fixed
+      all-fixed = rw modified-on-cut refl
+
+      fixed-on-cut : fixed n (cutLine n cap s ℓ) i j ≡ fixed n s i j + loose n s i j * numerator n cap s ℓ / unmodifiedSum n s ℓ
+      fixed-on-cut = all-fixed ∙ value-on-cut
 
     -- any other pair
     module _ (off : (eqb i ℓ || eqb (n + j) ℓ) ≡ false) where
@@ -113,11 +127,11 @@ module _ (n : ℕ) (cap : List ℕ) (s : Cutting) (ℓ : ℕ) (at : ℓ < length
           go true = refl
           go false = refl
 
-      pub loose-off-cut : loose n (cutLine n cap s ℓ) i j ≡ loose n s i j
+      loose-off-cut : loose n (cutLine n cap s ℓ) i j ≡ loose n s i j
       unfolding loose
       loose-off-cut = rw (modified-off-cut, value-off-cut) refl
 
-      pub fixed-off-cut : fixed n (cutLine n cap s ℓ) i j ≡ fixed n s i j
+      fixed-off-cut : fixed n (cutLine n cap s ℓ) i j ≡ fixed n s i j
       unfolding fixed
       fixed-off-cut = rw (modified-off-cut, value-off-cut) refl
 
@@ -138,14 +152,14 @@ module _ (n : ℕ) (cap : List ℕ) (s : Cutting) (ℓ : ℕ) (at : ℓ < length
         unmodified-is n (cutLine n cap s ℓ) ℓ
         ∙ sum-all-zero n _ (λ t h. loose-on-cut _ _ (source-lt n ℓ t hl h) (destination-lt n ℓ t hl h) (on-own t))
 
-    pub own-modified : modifiedSum n (cutLine n cap s ℓ) ℓ ≡ modifiedSum n s ℓ + sumTo n (λ t. loose n s (sourceOn n ℓ t) (destinationOn n ℓ t) * numerator n cap s ℓ / unmodifiedSum n s ℓ)
+    pub own-modified : modifiedSum n (cutLine n cap s ℓ) ℓ ≡ modifiedSum n s ℓ + sumTo n (λ t. looseOn n s ℓ t * numerator n cap s ℓ / unmodifiedSum n s ℓ)
     own-modified =
         modified-is n (cutLine n cap s ℓ) ℓ
         ∙ sum-ext n _ _ (λ t h. fixed-on-cut _ _ (source-lt n ℓ t hl h) (destination-lt n ℓ t hl h) (on-own t))
         ∙ sum-add n
-        (λ t. fixed n s (sourceOn n ℓ t) (destinationOn n ℓ t))
-        (λ t. loose n s (sourceOn n ℓ t) (destinationOn n ℓ t) * numerator n cap s ℓ / unmodifiedSum n s ℓ)
-        ∙ ap (λ x. x + sumTo n (λ t. loose n s (sourceOn n ℓ t) (destinationOn n ℓ t) * numerator n cap s ℓ / unmodifiedSum n s ℓ)) (sym (modified-is n s ℓ))
+        (λ t. fixedOn n s ℓ t)
+        (λ t. looseOn n s ℓ t * numerator n cap s ℓ / unmodifiedSum n s ℓ)
+        ∙ ap (λ x. x + sumTo n (λ t. looseOn n s ℓ t * numerator n cap s ℓ / unmodifiedSum n s ℓ)) (sym (modified-is n s ℓ))
 
   -- any other line
   module _ (m : ℕ) (hm : m < 2 * n) (ne : m ≡ ℓ → ⊥) where
@@ -154,15 +168,15 @@ module _ (n : ℕ) (cap : List ℕ) (s : Cutting) (ℓ : ℕ) (at : ℓ < length
       off-there : (t : ℕ) → (t ≡ x .y → ⊥) → (eqb (sourceOn n m t) ℓ || eqb (n + destinationOn n m t) ℓ) ≡ false
       off-there t nt = off-else m t ne (λ e. nt (crossing-once n m t (x .y) (e ∙ sym (x .here))))
 
-      pub crossed-unmodified : unmodifiedSum n (cutLine n cap s ℓ) m + loose n s (sourceOn n ℓ (x .w)) (destinationOn n ℓ (x .w)) ≡ unmodifiedSum n s m
+      pub crossed-unmodified : unmodifiedSum n (cutLine n cap s ℓ) m + looseOn n s ℓ (x .w) ≡ unmodifiedSum n s m
       crossed-unmodified =
           omega (
             arith,
             unmodified-is n (cutLine n cap s ℓ) m,
             unmodified-is n s m,
             sum-update n
-            (λ t. loose n s (sourceOn n m t) (destinationOn n m t))
-            (λ t. loose n (cutLine n cap s ℓ) (sourceOn n m t) (destinationOn n m t))
+            (λ t. looseOn n s m t)
+            (λ t. looseOn n (cutLine n cap s ℓ) m t)
             (x .y)
             (x .within .1)
             (λ t h nt. loose-off-cut _ _ (source-lt n m t hm h) (destination-lt n m t hm h) (off-there t nt)),
@@ -170,15 +184,15 @@ module _ (n : ℕ) (cap : List ℕ) (s : Cutting) (ℓ : ℕ) (at : ℓ < length
             loose-on-cut _ _ (source-lt n m (x .y) hm (x .within .1)) (destination-lt n m (x .y) hm (x .within .1)) (on-crossing m (x .y) (x .here)),
           )
 
-      pub crossed-modified : modifiedSum n (cutLine n cap s ℓ) m ≡ modifiedSum n s m + loose n s (sourceOn n ℓ (x .w)) (destinationOn n ℓ (x .w)) * numerator n cap s ℓ / unmodifiedSum n s ℓ
+      pub crossed-modified : modifiedSum n (cutLine n cap s ℓ) m ≡ modifiedSum n s m + looseOn n s ℓ (x .w) * numerator n cap s ℓ / unmodifiedSum n s ℓ
       crossed-modified =
           omega (
             arith,
             modified-is n (cutLine n cap s ℓ) m,
             modified-is n s m,
             sum-update n
-            (λ t. fixed n s (sourceOn n m t) (destinationOn n m t))
-            (λ t. fixed n (cutLine n cap s ℓ) (sourceOn n m t) (destinationOn n m t))
+            (λ t. fixedOn n s m t)
+            (λ t. fixedOn n (cutLine n cap s ℓ) m t)
             (x .y)
             (x .within .1)
             (λ t h nt. fixed-off-cut _ _ (source-lt n m t hm h) (destination-lt n m t hm h) (off-there t nt)),

@@ -1,4 +1,4 @@
--- The invariant of the steps: every line above its capacity has b ≤ L, so a > 0 and its fraction lies from 0 to below 1; no line that has been cut is above its capacity.
+-- The invariant of the steps: b ≤ L on every line, so that a line above its capacity has a > 0 and a fraction from 0 to below 1; no line that has been cut is above its capacity.
 -- Cutting the line γ with the least fraction p/q keeps it. On γ the new cells sum to at most p. A line β still too long that loses the cell v has p×a ≤ (L−b)×q by the choice of γ,
 -- and v ≤ a: so v×p/q rounded down is at most L−b. No cell grows. Each step that cuts cuts a line more, so after 2N steps none exceeds.
 -- The laws ask nothing of demands and capacities. Assumes nothing.
@@ -20,16 +20,11 @@ use Rattle.sums.proofs.Tables.{length-square, square-cell}
 use Rattle.star.specs.Lines.{sourceOn, destinationOn, crossing, onLine, lineSum, Admissible}
 use Rattle.star.proofs.LineLaws.{source-lt, destination-lt, line-ext}
 use Rattle.fair.specs.Fair.{Cutting, modified, modifiedSum, unmodifiedSum, numerator, taken, cutCell, cutLine, step, steps, uncut, fairKept}
+use Rattle.fair.specs.Cuts.{Sound, Least}
 use Rattle.fair.proofs.Crossings.{Meet, Beside, two-lines, crossing-lt}
 use Rattle.fair.proofs.Fractions.{floor-most, floor-less, floor-none, floors-most}
-use Rattle.fair.proofs.LineCuts.{loose, fixed, unmodified-is, modified-is, modified-on, line-split, loose-most, value-on-cut, value-off-cut, own-unmodified, own-modified, crossed-unmodified, crossed-modified, beside-unmodified, beside-modified}
-use Rattle.fair.proofs.Choices.{Least, Quiet, taken-least, taken-none}
-
-pub record Sound (n : ℕ) (cap : List ℕ) (s : Cutting) : Type 0 where
-  pub cells : length (s .values) ≡ n * n
-  pub flags : length (s .done) ≡ 2 * n
-  pub within : (m : ℕ) → m < 2 * n → getD cap m 0 < lineSum n (s .values) m → modifiedSum n s m ≤ getD cap m 0
-  pub closed : (m : ℕ) → m < 2 * n → 0 < getD (s .done) m 0 → lineSum n (s .values) m ≤ getD cap m 0
+use Rattle.fair.proofs.LineCuts.{loose, looseOn, unmodified-is, modified-is, modified-on, cell-split, line-split, value-on-cut, value-off-cut, own-unmodified, own-modified, crossed-unmodified, crossed-modified, beside-unmodified, beside-modified}
+use Rattle.fair.proofs.Choices.{Quiet, taken-least, taken-none}
 
 -- a line other than the one cut with p/q: the cell v goes over from a to b as v×p/q rounded down (v is 0 where nothing does)
 pub record Passed (p q a b a' b' : ℕ) : Type 0 where
@@ -42,12 +37,12 @@ module _ (n : ℕ) (cap : List ℕ) (s : Cutting) (h : Sound n cap s) where
   module _ (m : ℕ) (hm : m < 2 * n) (over : getD cap m 0 < lineSum n (s .values) m) where
     -- something of it is unmodified: no division by zero
     pub over-some : 0 < unmodifiedSum n s m
-    over-some = omega (arith, line-split n s m, h .within m hm over)
+    over-some = omega (arith, line-split n s m, h .within m hm)
 
     -- its fraction is below 1
     pub over-proper : numerator n cap s m < unmodifiedSum n s m
     unfolding numerator
-    over-proper = omega (arith, line-split n s m, h .within m hm over)
+    over-proper = omega (arith, line-split n s m, h .within m hm)
 
     -- it has not been cut
     pub over-uncut : getD (s .done) m 0 ≡ 0
@@ -77,8 +72,8 @@ module _ (n : ℕ) (cap : List ℕ) (s : Cutting) (h : Sound n cap s) where
           line-split n (cutLine n cap s ℓ) ℓ,
           own-unmodified n cap s ℓ at (γ .line),
           own-modified n cap s ℓ at (γ .line),
-          h .within ℓ (γ .line) (γ .over),
-          floors-most n (numerator n cap s ℓ) (unmodifiedSum n s ℓ) (λ t. loose n s (sourceOn n ℓ t) (destinationOn n ℓ t)) (over-some ℓ (γ .line) (γ .over)) (sym (unmodified-is n s ℓ)),
+          h .within ℓ (γ .line),
+          floors-most n (numerator n cap s ℓ) (unmodifiedSum n s ℓ) (λ t. looseOn n s ℓ t) (over-some ℓ (γ .line) (γ .over)) (sym (unmodified-is n s ℓ)),
         )
 
     -- any other line
@@ -86,7 +81,7 @@ module _ (n : ℕ) (cap : List ℕ) (s : Cutting) (h : Sound n cap s) where
     passed m hm ne =
         ⊎-elim
         (λ (x : Meet n ℓ m). record {
-          v = loose n s (sourceOn n ℓ (x .w)) (destinationOn n ℓ (x .w));
+          v = looseOn n s ℓ (x .w);
           less = crossed-unmodified n cap s ℓ at m hm ne x;
           more = crossed-modified n cap s ℓ at m hm ne x
         })
@@ -101,11 +96,14 @@ module _ (n : ℕ) (cap : List ℕ) (s : Cutting) (h : Sound n cap s) where
     pub cell-shrinks : (i j : ℕ) → i < n → j < n → cell n (cutLine n cap s ℓ .values) i j ≤ cell n (s .values) i j
     cell-shrinks i j hi hj = go (eqb i ℓ || eqb (n + j) ℓ) refl
       where
-        kept : (b : Bool) → cond b (cell n (s .values) i j) (cell n (s .values) i j * numerator n cap s ℓ / unmodifiedSum n s ℓ) ≤ cell n (s .values) i j
-        kept true = omega arith
-        kept false = floor-less (cell n (s .values) i j) (numerator n cap s ℓ) (unmodifiedSum n s ℓ) proper
         go : (b : Bool) → (eqb i ℓ || eqb (n + j) ℓ) ≡ b → cell n (cutLine n cap s ℓ .values) i j ≤ cell n (s .values) i j
-        go true e = rw (value-on-cut n cap s ℓ at i j hi hj e) (kept (modified n s i j))
+        go true e =
+            omega (
+              arith,
+              value-on-cut n cap s ℓ at i j hi hj e,
+              cell-split n s i j,
+              floor-less (loose n s i j) (numerator n cap s ℓ) (unmodifiedSum n s ℓ) proper,
+            )
         go false e = omega (arith, value-off-cut n cap s ℓ at i j hi hj e)
 
     -- no line grows
@@ -113,17 +111,19 @@ module _ (n : ℕ) (cap : List ℕ) (s : Cutting) (h : Sound n cap s) where
     unfolding lineSum onLine
     line-shrinks m hm = sum-mono n _ _ (λ t p. cell-shrinks _ _ (source-lt n m t hm p) (destination-lt n m t hm p))
 
-    passed-within : (m : ℕ) → m < 2 * n → getD cap m 0 < lineSum n (cutLine n cap s ℓ .values) m → (m ≡ ℓ → ⊥) → modifiedSum n (cutLine n cap s ℓ) m ≤ getD cap m 0
+    passed-within : (m : ℕ) → m < 2 * n → (m ≡ ℓ → ⊥) → modifiedSum n (cutLine n cap s ℓ) m ≤ getD cap m 0
     unfolding numerator
-    passed-within m hm over ne =
+    passed-within m hm ne =
+        by-lt (getD cap m 0) (lineSum n (s .values) m)
+        (λ over.
         let x = passed m hm ne in
-        let was : getD cap m 0 < lineSum n (s .values) m = omega (arith, line-shrinks m hm) in
         omega (
           arith,
           x,
-          h .within m hm was,
-          floor-most (x .v) (unmodifiedSum n s m) (numerator n cap s ℓ) (unmodifiedSum n s ℓ) (numerator n cap s m) (omega (arith, x)) (γ .least m hm was),
-        )
+          h .within m hm,
+          floor-most (x .v) (unmodifiedSum n s m) (numerator n cap s ℓ) (unmodifiedSum n s ℓ) (numerator n cap s m) (omega (arith, x)) (γ .least m hm over),
+        ))
+        (λ under. omega (arith, line-shrinks m hm, line-split n (cutLine n cap s ℓ) m))
 
     flag-kept : (m : ℕ) → (m ≡ ℓ → ⊥) → getD (cutLine n cap s ℓ .done) m 0 ≡ getD (s .done) m 0
     unfolding cutLine
@@ -142,7 +142,7 @@ module _ (n : ℕ) (cap : List ℕ) (s : Cutting) (h : Sound n cap s) where
     cut-sound = record {
       cells = cut-lengths .0;
       flags = cut-lengths .1;
-      within = λ m hm over. by-eq m ℓ (λ e. absurd (omega (arith, own-fits, ap (λ x. lineSum n (cutLine n cap s ℓ .values) x) e, ap (λ x. getD cap x 0) e))) (passed-within m hm over);
+      within = λ m hm. by-eq m ℓ (λ e. rw e (omega (arith, own-fits, line-split n (cutLine n cap s ℓ) ℓ))) (passed-within m hm);
       closed = λ m hm f. by-eq m ℓ (λ e. rw e own-fits) (λ ne. omega (arith, line-shrinks m hm, h .closed m hm (omega (arith, flag-kept m ne))))
     }
 
@@ -208,7 +208,7 @@ module _ (n : ℕ) (d : List ℕ) where
   uncut-sound cap = record {
     cells = uncut-lengths .0;
     flags = uncut-lengths .1;
-    within = λ m hm over. omega (arith, uncut-b m hm);
+    within = λ m hm. omega (arith, uncut-b m hm);
     closed = λ m hm f. absurd (omega (arith, uncut-flag m hm))
   }
 
