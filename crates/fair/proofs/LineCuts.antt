@@ -136,7 +136,7 @@ module _ (n : ℕ) (cap : List ℕ) (s : Cutting) (ℓ : ℕ) (at : ℓ < length
       fixed-off-cut = rw (modified-off-cut, value-off-cut) refl
 
   -- ---- a line
-  on-own : (t : ℕ) → (eqb (sourceOn n ℓ t) ℓ || eqb (n + destinationOn n ℓ t) ℓ) ≡ true
+  pub on-own : (t : ℕ) → (eqb (sourceOn n ℓ t) ℓ || eqb (n + destinationOn n ℓ t) ℓ) ≡ true
   on-own t = pair-lines n ℓ t (λ x. eqb x ℓ) ∙ rw (eq-eqb ℓ ℓ refl) refl
 
   on-crossing : (m t : ℕ) → crossing n m t ≡ ℓ → (eqb (sourceOn n m t) ℓ || eqb (n + destinationOn n m t) ℓ) ≡ true

@@ -22,7 +22,7 @@ use Rattle.fair.specs.Fair.{Cutting, modified, modifiedSum, unmodifiedSu
 use Rattle.fair.specs.Cuts.{cutting, Capacities, Counted, Sound, Least, CellCut, CanCutCell, CanCutLine, LineCut}
 use Rattle.fair.proofs.Crossings.{source-row, source-column, destination-row, destination-column, crossing-lt, crossing-other, crossing-once, Meet, Beside, two-lines}
 use Rattle.fair.proofs.Fractions.{floor-none, floor-less, floors-most}
-use Rattle.fair.proofs.LineCuts.{loose, looseOn, fixedOn, cell-split, modified-on, unmodified-is, loose-most, value-on-cut, value-off-cut, own-unmodified, own-modified, crossed-unmodified, crossed-modified, beside-unmodified, beside-modified}
+use Rattle.fair.proofs.LineCuts.{loose, looseOn, fixedOn, cell-split, modified-on, unmodified-is, loose-most, value-on-cut, value-off-cut, own-unmodified, own-modified, crossed-unmodified, crossed-modified, beside-unmodified, beside-modified, on-own}
 use Rattle.fair.proofs.Stores.{set-else}
 use Rattle.fair.proofs.Steps.{over-some, over-proper, over-uncut, cut-sound}
 
@@ -152,3 +152,139 @@ module _ {n : ℕ} {s : Cutting} {a b : List ℕ} {ℓ p q : ℕ} {v' a' b' : Li
           (a-kept m apart ∙ was .0, b-kept m apart ∙ was .1);
           total = omega (arith, P .total, now, sum-more t (λ u. looseOn n s ℓ u * p / q))
         }
+
+-- an unmodified cell of a line is at most the sum of those of the line that crosses there
+loose-crossing : (n : ℕ) (s : Cutting) (ℓ t : ℕ) → ℓ < 2 * n → t < n → looseOn n s ℓ t ≤ unmodifiedSum n s (crossing n ℓ t)
+loose-crossing n s ℓ t hl ht =
+    ⊎-elim
+    (λ (x : Meet n ℓ (crossing n ℓ t)).
+    let w : x .w ≡ t = crossing-once n ℓ (x .w) t (x .there) in
+    omega (arith, loose-most n s (crossing n ℓ t) (x .y) (x .within .1), ap₂ (loose n s) (x .source) (x .destination), ap (looseOn n s ℓ) w))
+    (λ (x : Beside n ℓ (crossing n ℓ t)). absurd (x .there t ht refl))
+    (two-lines n ℓ (crossing n ℓ t) hl (crossing-lt n ℓ t hl ht))
+
+-- ---- the whole line
+module _ (n : ℕ) (cap kept done a b : List ℕ) (ℓ : ℕ) (h : CanCutLine n cap kept done a b ℓ) where
+  pub line-lt : ℓ < 2 * n
+  line-lt = h .least .line
+
+  pub line-uncut : getD done ℓ 0 ≡ 0
+  line-uncut = over-uncut n cap (cutting kept done) (h .sound) ℓ (h .least .line) (h .least .over)
+
+  pub b-within : (m : ℕ) → m < 2 * n → getD b m 0 ≤ getD cap m 0
+  b-within m hm = omega (arith, h .counted .modified m hm, h .sound .within m hm)
+
+  p-is : getD cap ℓ 0 - getD b ℓ 0 ≡ numerator n cap (cutting kept done) ℓ
+  unfolding numerator
+  p-is = omega (arith, h .counted .modified ℓ line-lt)
+
+  q-is : getD a ℓ 0 ≡ unmodifiedSum n (cutting kept done) ℓ
+  q-is = h .counted .unmodified ℓ line-lt
+
+  proper : getD cap ℓ 0 - getD b ℓ 0 < getD a ℓ 0
+  proper = rw (p-is, q-is) (over-proper n cap (cutting kept done) (h .sound) ℓ (h .least .line) (h .least .over))
+
+  module _ {v' a' b' : List ℕ} {t sum : ℕ} (P : Partway n (cutting kept done) a b ℓ (getD cap ℓ 0 - getD b ℓ 0) (getD a ℓ 0) v' a' b' t sum) where
+    -- the new cells sum to at most p
+    pub sum-fits : t ≤ n → sum ≤ getD cap ℓ 0 - getD b ℓ 0
+    sum-fits le =
+        omega (
+          arith,
+          P .total,
+          sum-part t n (λ u. looseOn n (cutting kept done) ℓ u * (getD cap ℓ 0 - getD b ℓ 0) / getD a ℓ 0) le,
+          floors-most n (getD cap ℓ 0 - getD b ℓ 0) (getD a ℓ 0) (looseOn n (cutting kept done) ℓ) (omega (arith, proper)) (sym (unmodified-is n (cutting kept done) ℓ) ∙ sym q-is),
+        )
+
+    -- b of the line itself is as it was
+    pub own-b : t ≤ n → getD b' ℓ 0 ≡ getD b ℓ 0
+    own-b le = P .beside ℓ (λ u hu e. crossing-other n ℓ u (omega arith) e) .1
+
+    pub can-cut-cell : t < n → getD done (crossing n ℓ t) 0 ≤ 0 → CanCutCell n v' a' b' ℓ t (getD cap ℓ 0 - getD b ℓ 0) (getD a ℓ 0)
+    can-cut-cell ht free =
+        let cl : crossing n ℓ t < 2 * n = crossing-lt n ℓ t line-lt ht in
+        record {
+          square = record { nodes = h .nodes; cells = omega (arith, P .lengths, h .sound .cells) };
+          room = (omega (arith, P .lengths, h .counted .room), omega (arith, P .lengths, h .counted .room));
+          line = (line-lt, ht);
+          fraction = (omega (arith, h .capacities .most ℓ line-lt), proper);
+          demand = omega (arith, next-value P line-lt ht, on-line-most n kept ℓ t (h .demands) line-lt ht);
+          part = omega (
+            arith,
+            next-value P line-lt ht,
+            next-sums P line-lt ht,
+            open-loose n (cutting kept done) ℓ line-uncut t free,
+            loose-crossing n (cutting kept done) ℓ t line-lt ht,
+            h .counted .unmodified (crossing n ℓ t) cl,
+          );
+          most = omega (arith, next-sums P line-lt ht, b-within (crossing n ℓ t) cl, h .capacities .most (crossing n ℓ t) cl)
+        }
+
+    pub partway-turn : {v'' a'' b'' : List ℕ} {r : ℕ} → t < n → getD done (crossing n ℓ t) 0 ≤ 0 →
+        CellCut n v' a' b' ℓ t (getD cap ℓ 0 - getD b ℓ 0) (getD a ℓ 0) v'' a'' b'' r →
+        Partway n (cutting kept done) a b ℓ (getD cap ℓ 0 - getD b ℓ 0) (getD a ℓ 0) v'' a'' b'' (t + 1) (sum + r)
+    partway-turn ht free C =
+        let can = can-cut-cell ht free in
+        partway-cut P line-lt ht line-uncut free C (can .square .cells) (can .room .0) (can .room .1) (can .part)
+
+  module _ {v' a' b' : List ℕ} {sum : ℕ} (Q : Partway n (cutting kept done) a b ℓ (getD cap ℓ 0 - getD b ℓ 0) (getD a ℓ 0) v' a' b' n sum) where
+    P : Partway n (cutting kept done) a b ℓ (numerator n cap (cutting kept done) ℓ) (unmodifiedSum n (cutting kept done) ℓ) v' a' b' n sum
+    P = rw (p-is, q-is) at Q
+
+    at : ℓ < length done
+    at = omega (arith, h .sound .flags, line-lt)
+
+    value-on : (u : ℕ) → u < n → cell n v' (sourceOn n ℓ u) (destinationOn n ℓ u) ≡ cell n (cutLine n cap (cutting kept done) ℓ .values) (sourceOn n ℓ u) (destinationOn n ℓ u)
+    unfolding onLine
+    value-on u hu = P .here u hu ∙ sym (value-on-cut n cap (cutting kept done) ℓ at (sourceOn n ℓ u) (destinationOn n ℓ u) (source-lt n ℓ u line-lt hu) (destination-lt n ℓ u line-lt hu) (on-own n cap (cutting kept done) ℓ at u))
+
+    same : (i j : ℕ) → i < n → j < n → cell n v' i j ≡ cell n (cutLine n cap (cutting kept done) ℓ .values) i j
+    same i j hi hj =
+        by-eq i ℓ
+        (λ e. let lr : ℓ < n = omega arith in
+        rw e (rw (source-row n ℓ j lr, destination-row n ℓ j lr) at (value-on j hj)))
+        (λ ni. by-eq (n + j) ℓ
+        (λ e. let lc : n ≤ ℓ = omega arith in let d : ℓ - n ≡ j = omega arith in
+        rw (source-column n ℓ i lc, destination-column n ℓ i lc, d) at (value-on i hi))
+        (λ nj.
+        P .rest i j hi hj (λ u hu es ed. by-lt ℓ n (λ lr. omega (arith, source-row n ℓ u lr, ni)) (λ lc. omega (arith, destination-column n ℓ u lc, nj)))
+        ∙ sym (value-off-cut n cap (cutting kept done) ℓ at i j hi hj (rw (ne-eqb i ℓ ni, ne-eqb (n + j) ℓ nj) refl))))
+
+    state : cutting v' (set done ℓ 1) ≡ cutLine n cap (cutting kept done) ℓ
+    unfolding cutLine
+    state =
+        let e : v' ≡ cutLine n cap (cutting kept done) ℓ .values = square-ext n v' _ (P .lengths .0 ∙ h .sound .cells) (cut-sound n cap (cutting kept done) (h .sound) ℓ (h .least) .cells) same in
+        ap (λ v. cutting v (set done ℓ 1)) e
+
+    other-line : (m : ℕ) → m < 2 * n → (m ≡ ℓ → ⊥) → (getD a' m 0 ≡ unmodifiedSum n (cutLine n cap (cutting kept done) ℓ) m) × (getD b' m 0 ≡ modifiedSum n (cutLine n cap (cutting kept done) ℓ) m)
+    other-line m hm ne =
+        ⊎-elim
+        (λ (x : Meet n ℓ m).
+        let less = rw (x .there) at (P .less (x .w) (x .within .0)) in
+        let more = rw (x .there) at (P .more (x .w) (x .within .0)) in (
+          omega (arith, less, h .counted .unmodified m hm, crossed-unmodified n cap (cutting kept done) ℓ at m hm ne x),
+          omega (arith, more, h .counted .modified m hm, crossed-modified n cap (cutting kept done) ℓ at m hm ne x),
+        ))
+        (λ (x : Beside n ℓ m).
+        let was = P .beside m (λ u hu. x .there u hu) in (
+          omega (arith, was, h .counted .unmodified m hm, beside-unmodified n cap (cutting kept done) ℓ at m hm ne x),
+          omega (arith, was, h .counted .modified m hm, beside-modified n cap (cutting kept done) ℓ at m hm ne x),
+        ))
+        (two-lines n ℓ m line-lt hm)
+
+    own-b-after : getD b' ℓ 0 + sum ≡ modifiedSum n (cutLine n cap (cutting kept done) ℓ) ℓ
+    own-b-after = omega (arith, own-b Q (omega arith), P .total, h .counted .modified ℓ line-lt, own-modified n cap (cutting kept done) ℓ at line-lt)
+
+    -- when all pairs are done the line is cut
+    pub line-cut : LineCut n cap kept done a b ℓ v' (set done ℓ 1) (set a' ℓ 0) (set b' ℓ (getD b' ℓ 0 + sum))
+    line-cut = record {
+      state = state;
+      counted = rw state (record {
+        room = (rw (length-set a' ℓ 0) (omega (arith, P .lengths, h .counted .room)), rw (length-set b' ℓ (getD b' ℓ 0 + sum)) (omega (arith, P .lengths, h .counted .room)));
+        unmodified = λ m hm. by-eq m ℓ
+        (λ e. rw (e, getD-set-same a' ℓ 0 0 (omega (arith, P .lengths, h .counted .room, line-lt))) (sym (own-unmodified n cap (cutting kept done) ℓ at line-lt)))
+        (λ ne. getD-set-other a' ℓ m 0 0 ne ∙ other-line m hm ne .0);
+        modified = λ m hm. by-eq m ℓ
+        (λ e. rw (e, getD-set-same b' ℓ (getD b' ℓ 0 + sum) 0 (omega (arith, P .lengths, h .counted .room, line-lt))) own-b-after)
+        (λ ne. getD-set-other b' ℓ m (getD b' ℓ 0 + sum) 0 ne ∙ other-line m hm ne .1)
+      })
+    }

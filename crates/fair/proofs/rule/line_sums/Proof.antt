@@ -48,7 +48,7 @@ loop-less c = omega arith
 
 -- src/rule.rt:34:5
 loop-again : tie.Need-loop-again Inv-loop μ-loop
-loop-again c = (omega arith, simp length-set (c .before .before .loop .inv .1), set-more _ _ _ _ (omega arith) (c .line-sum .ensures .0) (c .before .before .loop .inv .2))
+loop-again c = (omega arith, simp length-set (c .before .before .loop .inv .1), set-more (λ ℓ. lineSum (c .before .before .before .before .before .args .n) (c .before .before .before .before .before .args .demand .now) ℓ) (c .before .before .loop .sums) (c .before .before .loop .line) (c .line-sum .result) (omega arith) (c .line-sum .ensures .0) (c .before .before .loop .inv .2))
 
 -- src/rule.rt:27:1
 same-length : tie.Need-same-length Inv-loop μ-loop
