@@ -7,3 +7,4 @@ pub mod Steps
 pub mod Comparisons
 pub mod Stores
 pub mod Partway
+pub mod Rounds

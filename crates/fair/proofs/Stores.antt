@@ -1,9 +1,9 @@
 -- Stores to tables: of the next cell, where a table is written from the front; of one pair's cell. By the laws of a store to a list. Assumes nothing.
-use Prim.Native.Nat.{ℕ, _+_, _*_, _≤_, _<_}
+use Prim.Native.Nat.{ℕ, zero, suc, _+_, _*_, _≤_, _<_}
 use native.Mathlib.Omega.{arith}
-use mathlib.Core.Path.{_≡_, ap, _∙_}
-use mathlib.Core.List.{List, _++_, append-nil}
-use lib.ListN.{length, getD, set, drop, drop-of-length-le}
+use mathlib.Core.Path.{_≡_, refl, ap, _∙_}
+use mathlib.Core.List.{List, _∷_, _++_, append-nil}
+use lib.ListN.{length, getD, set, take, drop, replicate, drop-of-length-le}
 use lib.Seq.{getD-set-same, getD-set-other}
 use Rattle.sums.specs.Tables.{cell, tab}
 use Rattle.sums.proofs.Cases.{by-eq}
@@ -23,3 +23,9 @@ tab-whole f t o p e h = h ∙ rw (e, drop-of-length-le o {i = length o} (omega a
 -- a store to one pair's cell leaves every other pair's
 pub set-else : (n : ℕ) (t : List ℕ) (a c x : ℕ) → c < n → (i j : ℕ) → j < n → (i ≡ a → j ≡ c → ⊥) → cell n (set t (a * n + c) x) i j ≡ cell n t i j
 set-else n t a c x hc i j hj ne = by-eq i a (λ e. set-col n t a c x hc i j hj (ne e)) (set-row n t a c x hc i j hj)
+
+-- a part of a table whose cells are all the same
+pub take-replicate : (k m x : ℕ) → k ≤ m → take k (replicate m x) ≡ replicate k x
+take-replicate zero m x h = refl
+take-replicate (suc k) zero x h = absurd (omega arith)
+take-replicate (suc k) (suc m) x h = ap (λ l. x ∷ l) (take-replicate k m x (omega arith))

@@ -1,3 +1,11 @@
+use Rattle.fair.proofs.Stores.{take-replicate}
+use Rattle.sums.specs.Tables.{written}
+use lib.Seq.{length-take-le}
+use native.Mathlib.Omega.{arith}
+use lib.ListN.{drop, replicate}
+use mathlib.Core.List.{_++_}
+use mathlib.Core.Path.{_≡_, refl, sym, ap, _∙_}
+use Prim.Native.Nat.{_*_}
 use borrow.Author.Needs.{needs}
 use Rattle.fair.proofs.rule.cut.Statement.{statement}
 use Rattle.fair.proofs.rule.cut.Tie as tie
@@ -19,7 +27,7 @@ slice-relend-prefix-cut-exactly c = search needs
 
 -- src/rule.rt:64:33
 slice-aggregate-cut-exactly : tie.Need-slice-aggregate-cut-exactly
-slice-aggregate-cut-exactly c = ?
+slice-aggregate-cut-exactly c = sym (length-take-le _ _ (c .before .before .before .before .pre .room))
 
 -- src/rule.rt:64:53
 array-borrow-prefix-done : tie.Need-array-borrow-prefix-done
@@ -27,11 +35,11 @@ array-borrow-prefix-done c = search needs
 
 -- src/rule.rt:64:53
 slice-aggregate-cut-exactly-2 : tie.Need-slice-aggregate-cut-exactly-2
-slice-aggregate-cut-exactly-2 c = ?
+slice-aggregate-cut-exactly-2 c = sym (length-take-le (2 * c .before .before .before .before .before .args .n) (replicate 128 0) (omega (arith, c .before .before .before .before .before .pre .square .nodes)))
 
 -- src/rule.rt:64:5
 cut-exactly-requires : tie.Need-cut-exactly-requires
-cut-exactly-requires c κs = ?
+cut-exactly-requires c κs = record { square = c .before .before .before .before .before .pre .square; demands = c .before .before .before .before .before .pre .demands; capacities = c .before .before .before .before .before .pre .capacities; cells = length-take-le _ _ (c .before .before .before .before .before .pre .room); none = take-replicate (2 * c .before .before .before .before .before .args .n) 128 0 (omega (arith, c .before .before .before .before .before .pre .square .nodes)) }
 
 -- src/rule.rt:57:1
 same-length : tie.Need-same-length
@@ -39,7 +47,8 @@ same-length c = search needs
 
 -- src/rule.rt:57:1
 returns : tie.Need-returns
-returns c = ?
+unfolding written
+returns c = ap (λ x. x ++ drop (c .before .before .before .before .before .before .before .before .before .args .n * c .before .before .before .before .before .before .before .before .before .args .n) (c .before .before .before .before .before .before .before .before .before .args .kept .now)) (c .before .before .before .cut-exactly .ensures)
 
 pub cut-spec : {M : Type 1} → statement M
 cut-spec =

@@ -1,3 +1,6 @@
+use Rattle.fair.proofs.Rounds.{can-cut-all, copied-kept}
+use native.Mathlib.Omega.{arith}
+use mathlib.Core.Path.{_≡_, refl, _∙_}
 use borrow.Author.Needs.{needs}
 use Rattle.fair.proofs.rule.cut_exactly.Statement.{statement}
 use Rattle.fair.proofs.rule.cut_exactly.Tie as tie
@@ -29,7 +32,7 @@ slice-aggregate-cut-all-2 c = search needs
 
 -- src/rule.rt:76:5
 cut-all-requires : tie.Need-cut-all-requires
-cut-all-requires c κs = ?
+cut-all-requires c κs = can-cut-all _ _ _ _ _ (c .before .before .before .before .before .before .before .before .before .before .before .before .before .before .before .pre) (c .before .before .before .before .before .before .before .before .before .copy .ensures) _ _ (omega (arith, c .before .before .before .before .before .line-sums .kept .1 .1 .0)) (c .before .before .before .before .before .line-sums .ensures) refl
 
 -- src/rule.rt:68:1
 same-length : tie.Need-same-length
@@ -41,7 +44,7 @@ same-length-2 c = search needs
 
 -- src/rule.rt:68:1
 returns : tie.Need-returns
-returns c = ?
+returns c = c .before .before .before .before .before .before .cut-all .ensures ∙ copied-kept _ _ _ _ _ (c .before .before .before .before .before .before .before .before .before .before .before .before .before .before .before .before .before .before .before .before .before .before .pre) (c .before .before .before .before .before .before .before .before .before .before .before .before .before .before .before .before .copy .ensures)
 
 pub cut-exactly-spec : {M : Type 1} → statement M
 cut-exactly-spec =
