@@ -1,7 +1,7 @@
 -- The line that is taken exceeds its capacity, and no line that does has a smaller fraction; where none is found none exceeds. By induction on the lines looked at. Assumes nothing.
-use Prim.Native.Nat.{ℕ, zero, suc, _+_, _*_, _≤_, _<_}
+use Prim.Native.Nat.{ℕ, zero, suc, _*_, _≤_, _<_}
 use native.Mathlib.Omega.{arith}
-use mathlib.Core.Path.{_≡_, refl, sym, ap, _∙_}
+use mathlib.Core.Path.{_≡_, refl, _∙_}
 use mathlib.Core.Bool.{Bool, true, false, cond, _&&_, _||_}
 use mathlib.Core.Logic.{_⊎_, inl, inr, ⊎-elim}
 use mathlib.Core.List.{List}
@@ -58,27 +58,27 @@ module _ (n : ℕ) (cap : List ℕ) (s : Cutting) where
         (λ q. inr (rw (first k over (q .0)) (record {
           line = omega arith;
           over = over;
-          least = λ m p o. by-eq m k (λ e. rw e (omega arith)) (λ ne. absurd (omega (arith, q .1 .under m (omega arith))))
+          least = λ m p o. by-eq m k (λ e. rw e (omega arith)) (λ ne. absurd (omega (arith, q .1 .under m (omega arith))));
         })))
         (λ (b : Least n cap s k (taken n cap s k)). by-lt (numerator n cap s k * unmodifiedSum n s (taken n cap s k)) (numerator n cap s (taken n cap s k) * unmodifiedSum n s k)
         (λ less. inr (rw (better k over (omega (arith, b .line)) less) (record {
           line = omega arith;
           over = over;
           least = λ m p o. by-eq m k (λ e. rw e (omega arith)) (λ ne. fraction-trans
-          (numerator n cap s k)
-          (unmodifiedSum n s k)
-          (numerator n cap s (taken n cap s k))
-          (unmodifiedSum n s (taken n cap s k))
-          (numerator n cap s m)
-          (unmodifiedSum n s m)
-          (some (taken n cap s k) (omega (arith, b .line)) (b .over))
-          (omega arith)
-          (b .least m (omega arith) o))
+              (numerator n cap s k)
+              (unmodifiedSum n s k)
+              (numerator n cap s (taken n cap s k))
+              (unmodifiedSum n s (taken n cap s k))
+              (numerator n cap s m)
+              (unmodifiedSum n s m)
+              (some (taken n cap s k) (omega (arith, b .line)) (b .over))
+              (omega arith)
+              (b .least m (omega arith) o));
         })))
         (λ more. inr (rw (keeps k over (omega (arith, b .line)) more) (record {
           line = omega (arith, b .line);
           over = b .over;
-          least = λ m p o. by-eq m k (λ e. rw e more) (λ ne. b .least m (omega arith) o)
+          least = λ m p o. by-eq m k (λ e. rw e more) (λ ne. b .least m (omega arith) o);
         }))))
         (choice k (omega arith)))
         (λ under. ⊎-elim
@@ -86,7 +86,7 @@ module _ (n : ℕ) (cap : List ℕ) (s : Cutting) where
         (λ (b : Least n cap s k (taken n cap s k)). inr (rw (skips k under) (record {
           line = omega (arith, b .line);
           over = b .over;
-          least = λ m p o. by-eq m k (λ e. absurd (omega (arith, rw e at o))) (λ ne. b .least m (omega arith) o)
+          least = λ m p o. by-eq m k (λ e. absurd (omega (arith, rw e at o))) (λ ne. b .least m (omega arith) o);
         })))
         (choice k (omega arith)))
 

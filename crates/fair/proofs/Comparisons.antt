@@ -7,9 +7,9 @@ use mathlib.Core.Path.{_≡_, refl, sym, ap, ap₂, _∙_}
 use mathlib.Core.Bool.{Bool, true, false, cond}
 use mathlib.Core.List.{List}
 use lib.ListN.{getD}
-use lib.Dec.{ltb, leb}
+use lib.Dec.{ltb}
 use borrow.Author.Tests.{lt-ltb, le-ltb, le-leb, lt-leb}
-use Rattle.fair.specs.Fair.{Cutting, modifiedSum, unmodifiedSum, numerator, exceeds, smaller, taken}
+use Rattle.fair.specs.Fair.{Cutting, numerator, exceeds, smaller, taken}
 use Rattle.fair.specs.Cuts.{Counted, Comparable, Ahead, Next}
 use Rattle.fair.proofs.LineCuts.{line-split}
 use Rattle.fair.proofs.Choices.{taken-more}

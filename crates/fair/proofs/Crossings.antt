@@ -1,7 +1,7 @@
 -- Lines that cross: a pair lies on two lines, its row and its column; two lines either run beside each other or meet in one pair. By the cases row and column. Assumes nothing.
 use Prim.Native.Nat.{ℕ, _+_, _-_, _*_, _≤_, _<_}
 use native.Mathlib.Omega.{arith}
-use mathlib.Core.Path.{_≡_, refl, sym, ap, _∙_}
+use mathlib.Core.Path.{_≡_, refl, sym, _∙_}
 use mathlib.Core.Bool.{Bool, _||_, or-comm}
 use mathlib.Core.Logic.{_⊎_, inl, inr}
 use borrow.Author.Tests.{lt-ltb, le-ltb}
@@ -77,7 +77,7 @@ two-lines n ℓ m hl hm =
     (λ hr. by-lt m n
     (λ h. inr (record {
       there = λ t ht e. omega (arith, crossing-row n ℓ t hr);
-      here = λ t ht e. omega (arith, crossing-row n m t h)
+      here = λ t ht e. omega (arith, crossing-row n m t h);
     }))
     (λ h. inl (record {
       w = m - n;
@@ -86,7 +86,7 @@ two-lines n ℓ m hl hm =
       there = omega (arith, crossing-row n ℓ (m - n) hr);
       here = crossing-column n m ℓ h;
       source = source-column n m ℓ h ∙ sym (source-row n ℓ (m - n) hr);
-      destination = destination-column n m ℓ h ∙ sym (destination-row n ℓ (m - n) hr)
+      destination = destination-column n m ℓ h ∙ sym (destination-row n ℓ (m - n) hr);
     })))
     (λ hc. by-lt m n
     (λ h. inl (record {
@@ -96,9 +96,9 @@ two-lines n ℓ m hl hm =
       there = crossing-column n ℓ m hc;
       here = omega (arith, crossing-row n m (ℓ - n) h);
       source = source-row n m (ℓ - n) h ∙ sym (source-column n ℓ m hc);
-      destination = destination-row n m (ℓ - n) h ∙ sym (destination-column n ℓ m hc)
+      destination = destination-row n m (ℓ - n) h ∙ sym (destination-column n ℓ m hc);
     }))
     (λ h. inr (record {
       there = λ t ht e. omega (arith, crossing-column n ℓ t hc);
-      here = λ t ht e. omega (arith, crossing-column n m t h)
+      here = λ t ht e. omega (arith, crossing-column n m t h);
     })))

@@ -1,5 +1,5 @@
 -- A number times p/q rounded down: bounds, and the sum of such numbers. By division's own law, x/q ≤ y where x ≤ q × y. Assumes nothing.
-use Prim.Native.Nat.{ℕ, zero, suc, _+_, _*_, _/_, _≤_, _<_}
+use Prim.Native.Nat.{ℕ, zero, suc, _*_, _/_, _≤_, _<_}
 use native.Mathlib.Omega.{arith}
 use native.Mathlib.Nat.{mul-le-mul-left, mul-le-mul-right, le-of-mul-le-mul-right, div-le-of-le-mul, div-mul-le-self, add-mul}
 use mathlib.Core.Path.{_≡_}

@@ -1,7 +1,7 @@
 -- What cutting a line does to the sums a and b of every line, with p = L−b and q = a of the line that is cut. It has nothing unmodified left, and its b grows by the new cells.
 -- A line that crosses it loses the cell v there from a, and gains v×p/q rounded down in b. A line beside it keeps both.
 -- Each law first for a pair, by whether it is modified and whether it lies on the line, then for a line by its sum. Assumes nothing.
-use Prim.Native.Nat.{ℕ, _+_, _-_, _*_, _/_, _≤_, _<_}
+use Prim.Native.Nat.{ℕ, _+_, _*_, _/_, _≤_, _<_}
 use native.Mathlib.Omega.{arith}
 use mathlib.Core.Path.{_≡_, refl, sym, ap, ap₂, _∙_}
 use mathlib.Core.Bool.{Bool, true, false, cond, not, _||_, or-true, or-false}
@@ -175,11 +175,11 @@ module _ (n : ℕ) (cap : List ℕ) (s : Cutting) (ℓ : ℕ) (at : ℓ < length
             unmodified-is n (cutLine n cap s ℓ) m,
             unmodified-is n s m,
             sum-update n
-            (λ t. looseOn n s m t)
-            (λ t. looseOn n (cutLine n cap s ℓ) m t)
-            (x .y)
-            (x .within .1)
-            (λ t h nt. loose-off-cut _ _ (source-lt n m t hm h) (destination-lt n m t hm h) (off-there t nt)),
+                (λ t. looseOn n s m t)
+                (λ t. looseOn n (cutLine n cap s ℓ) m t)
+                (x .y)
+                (x .within .1)
+                (λ t h nt. loose-off-cut _ _ (source-lt n m t hm h) (destination-lt n m t hm h) (off-there t nt)),
             ap₂ (loose n s) (x .source) (x .destination),
             loose-on-cut _ _ (source-lt n m (x .y) hm (x .within .1)) (destination-lt n m (x .y) hm (x .within .1)) (on-crossing m (x .y) (x .here)),
           )
@@ -191,11 +191,11 @@ module _ (n : ℕ) (cap : List ℕ) (s : Cutting) (ℓ : ℕ) (at : ℓ < length
             modified-is n (cutLine n cap s ℓ) m,
             modified-is n s m,
             sum-update n
-            (λ t. fixedOn n s m t)
-            (λ t. fixedOn n (cutLine n cap s ℓ) m t)
-            (x .y)
-            (x .within .1)
-            (λ t h nt. fixed-off-cut _ _ (source-lt n m t hm h) (destination-lt n m t hm h) (off-there t nt)),
+                (λ t. fixedOn n s m t)
+                (λ t. fixedOn n (cutLine n cap s ℓ) m t)
+                (x .y)
+                (x .within .1)
+                (λ t h nt. fixed-off-cut _ _ (source-lt n m t hm h) (destination-lt n m t hm h) (off-there t nt)),
             ap (λ v. v * numerator n cap s ℓ / unmodifiedSum n s ℓ) (ap₂ (loose n s) (x .source) (x .destination)),
             fixed-on-cut _ _ (source-lt n m (x .y) hm (x .within .1)) (destination-lt n m (x .y) hm (x .within .1)) (on-crossing m (x .y) (x .here)),
           )

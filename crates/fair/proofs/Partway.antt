@@ -3,28 +3,26 @@
 use Prim.Native.Nat.{ℕ, _+_, _-_, _*_, _/_, _≤_, _<_}
 use native.Mathlib.Omega.{arith}
 use mathlib.Core.Path.{_≡_, refl, sym, ap, ap₂, _∙_}
-use mathlib.Core.Bool.{Bool, true, false, not, _||_, or-true}
 use mathlib.Core.Logic.{⊎-elim}
 use mathlib.Core.List.{List}
 use lib.ListN.{length, getD, set, length-set}
 use lib.Seq.{getD-set-same, getD-set-other}
-use lib.Dec.{ltb, eqb}
-use borrow.Author.Tests.{lt-ltb, le-ltb, eq-eqb, ne-eqb}
-use Rattle.sums.specs.Sums.{sumTo, gate}
+use lib.Dec.{ltb}
+use borrow.Author.Tests.{lt-ltb, le-ltb, ne-eqb}
+use Rattle.sums.specs.Sums.{sumTo}
 use Rattle.sums.specs.Tables.{cell}
 use Rattle.sums.proofs.Cases.{by-eq, by-lt}
 use Rattle.sums.proofs.Sums.{sum-more, sum-none, sum-part}
-use Rattle.sums.proofs.Tables.{set-here, set-row, set-col, square-ext, cell-lt}
-use Rattle.star.specs.Tables.{Demands}
-use Rattle.star.specs.Lines.{sourceOn, destinationOn, crossing, onLine, lineSum}
+use Rattle.sums.proofs.Tables.{set-here, square-ext, cell-lt}
+use Rattle.star.specs.Lines.{sourceOn, destinationOn, crossing, onLine}
 use Rattle.star.proofs.LineLaws.{source-lt, destination-lt, on-line-most}
 use Rattle.fair.specs.Fair.{Cutting, modified, modifiedSum, unmodifiedSum, numerator, cutLine}
-use Rattle.fair.specs.Cuts.{cutting, Capacities, Counted, Sound, Least, CellCut, CanCutCell, CanCutLine, LineCut}
+use Rattle.fair.specs.Cuts.{cutting, CellCut, CanCutCell, CanCutLine, LineCut}
 use Rattle.fair.proofs.Crossings.{source-row, source-column, destination-row, destination-column, crossing-lt, crossing-other, crossing-once, Meet, Beside, two-lines}
-use Rattle.fair.proofs.Fractions.{floor-none, floor-less, floors-most}
+use Rattle.fair.proofs.Fractions.{floor-none, floors-most}
 use Rattle.fair.proofs.LineCuts.{loose, looseOn, fixedOn, cell-split, modified-on, unmodified-is, loose-most, value-on-cut, value-off-cut, own-unmodified, own-modified, crossed-unmodified, crossed-modified, beside-unmodified, beside-modified, on-own}
 use Rattle.fair.proofs.Stores.{set-else}
-use Rattle.fair.proofs.Steps.{over-some, over-proper, over-uncut, cut-sound}
+use Rattle.fair.proofs.Steps.{over-proper, over-uncut, cut-sound}
 
 pub record Partway (n : ℕ) (s : Cutting) (a b : List ℕ) (ℓ p q : ℕ) (v' a' b' : List ℕ) (t sum : ℕ) : Type 0 where
   pub lengths : (length v' ≡ length (s .values)) × ((length a' ≡ length a) × (length b' ≡ length b))
@@ -75,7 +73,7 @@ partway-start n s a b ℓ p q = record {
   less = λ u h. absurd (omega arith);
   more = λ u h. absurd (omega arith);
   beside = λ m h. (refl, refl);
-  total = sym (sum-none _)
+  total = sym (sum-none _);
 }
 
 module _ {n : ℕ} {s : Cutting} {a b : List ℕ} {ℓ p q : ℕ} {v' a' b' : List ℕ} {t sum : ℕ} (P : Partway n s a b ℓ p q v' a' b' t sum) (hl : ℓ < 2 * n) (ht : t < n) where
@@ -100,7 +98,7 @@ module _ {n : ℕ} {s : Cutting} {a b : List ℕ} {ℓ p q : ℕ} {v' a' b' : Li
           less = λ u h. by-eq u t (λ e. rw e (omega (arith, next-sums))) (λ ne. P .less u (omega arith));
           more = λ u h. by-eq u t (λ e. rw e (omega (arith, next-sums))) (λ ne. P .more u (omega arith));
           beside = λ m no-one. P .beside m (λ u h. no-one u (omega arith));
-          total = omega (arith, P .total, sum-more t (λ u. looseOn n s ℓ u * p / q))
+          total = omega (arith, P .total, sum-more t (λ u. looseOn n s ℓ u * p / q));
         }
 
     -- an unmodified cell is cut
@@ -141,16 +139,16 @@ module _ {n : ℕ} {s : Cutting} {a b : List ℕ} {ℓ p q : ℕ} {v' a' b' : Li
           here = λ u h. by-eq u t (λ e. rw e (omega (arith, value-now, now, open-fixed n s ℓ uncut t free))) (λ ne. here-kept u (omega arith) ne ∙ P .here u (omega arith));
           rest = λ i j hi hj no-one. cell-kept i j hj (no-one t (omega arith)) ∙ P .rest i j hi hj (λ u h. no-one u (omega arith));
           less = λ u h. by-eq u t
-          (λ e. rw e (omega (arith, a-now, next-sums, next-value, open-loose n s ℓ uncut t free)))
-          (λ ne. omega (arith, a-kept (crossing n ℓ u) (λ e. ne (crossing-once n ℓ u t e)), P .less u (omega arith)));
+              (λ e. rw e (omega (arith, a-now, next-sums, next-value, open-loose n s ℓ uncut t free)))
+              (λ ne. omega (arith, a-kept (crossing n ℓ u) (λ e. ne (crossing-once n ℓ u t e)), P .less u (omega arith)));
           more = λ u h. by-eq u t
-          (λ e. rw e (omega (arith, b-now, next-sums, now)))
-          (λ ne. omega (arith, b-kept (crossing n ℓ u) (λ e. ne (crossing-once n ℓ u t e)), P .more u (omega arith)));
+              (λ e. rw e (omega (arith, b-now, next-sums, now)))
+              (λ ne. omega (arith, b-kept (crossing n ℓ u) (λ e. ne (crossing-once n ℓ u t e)), P .more u (omega arith)));
           beside = λ m no-one.
-          let apart : m ≡ crossing n ℓ t → ⊥ = λ e. no-one t (omega arith) (sym e) in
-          let was = P .beside m (λ u h. no-one u (omega arith)) in
-          (a-kept m apart ∙ was .0, b-kept m apart ∙ was .1);
-          total = omega (arith, P .total, now, sum-more t (λ u. looseOn n s ℓ u * p / q))
+              let apart : m ≡ crossing n ℓ t → ⊥ = λ e. no-one t (omega arith) (sym e) in
+              let was = P .beside m (λ u h. no-one u (omega arith)) in
+              (a-kept m apart ∙ was .0, b-kept m apart ∙ was .1);
+          total = omega (arith, P .total, now, sum-more t (λ u. looseOn n s ℓ u * p / q));
         }
 
 -- an unmodified cell of a line is at most the sum of those of the line that crosses there
@@ -216,7 +214,7 @@ module _ (n : ℕ) (cap kept done a b : List ℕ) (ℓ : ℕ) (h : CanCutLine n 
             loose-crossing n (cutting kept done) ℓ t line-lt ht,
             h .counted .unmodified (crossing n ℓ t) cl,
           );
-          most = omega (arith, next-sums P line-lt ht, b-within (crossing n ℓ t) cl, h .capacities .most (crossing n ℓ t) cl)
+          most = omega (arith, next-sums P line-lt ht, b-within (crossing n ℓ t) cl, h .capacities .most (crossing n ℓ t) cl);
         }
 
     pub partway-turn : {v'' a'' b'' : List ℕ} {r : ℕ} → t < n → getD done (crossing n ℓ t) 0 ≤ 0 →
@@ -281,10 +279,10 @@ module _ (n : ℕ) (cap kept done a b : List ℕ) (ℓ : ℕ) (h : CanCutLine n 
       counted = rw state (record {
         room = (rw (length-set a' ℓ 0) (omega (arith, P .lengths, h .counted .room)), rw (length-set b' ℓ (getD b' ℓ 0 + sum)) (omega (arith, P .lengths, h .counted .room)));
         unmodified = λ m hm. by-eq m ℓ
-        (λ e. rw (e, getD-set-same a' ℓ 0 0 (omega (arith, P .lengths, h .counted .room, line-lt))) (sym (own-unmodified n cap (cutting kept done) ℓ at line-lt)))
-        (λ ne. getD-set-other a' ℓ m 0 0 ne ∙ other-line m hm ne .0);
+            (λ e. rw (e, getD-set-same a' ℓ 0 0 (omega (arith, P .lengths, h .counted .room, line-lt))) (sym (own-unmodified n cap (cutting kept done) ℓ at line-lt)))
+            (λ ne. getD-set-other a' ℓ m 0 0 ne ∙ other-line m hm ne .0);
         modified = λ m hm. by-eq m ℓ
-        (λ e. rw (e, getD-set-same b' ℓ (getD b' ℓ 0 + sum) 0 (omega (arith, P .lengths, h .counted .room, line-lt))) own-b-after)
-        (λ ne. getD-set-other b' ℓ m (getD b' ℓ 0 + sum) 0 ne ∙ other-line m hm ne .1)
-      })
+            (λ e. rw (e, getD-set-same b' ℓ (getD b' ℓ 0 + sum) 0 (omega (arith, P .lengths, h .counted .room, line-lt))) own-b-after)
+            (λ ne. getD-set-other b' ℓ m (getD b' ℓ 0 + sum) 0 ne ∙ other-line m hm ne .1);
+      });
     }

@@ -1,19 +1,19 @@
 -- The tables after k steps hold the state of the definition after k steps, and its sums; what they begin with, and what they hold at the end. By the laws of one step. Assumes nothing.
 use Prim.Native.Nat.{ℕ, _+_, _*_, _/_, _%_, _≤_, _<_}
-use native.Mathlib.Nat.{div-add-mod', mul-le-mul-right}
+use native.Mathlib.Nat.{div-add-mod'}
 use native.Mathlib.Numerals.{add-one}
 use native.Mathlib.Omega.{arith}
-use mathlib.Core.Path.{_≡_, refl, sym, ap, ap₂, _∙_}
+use mathlib.Core.Path.{_≡_, sym, ap, ap₂, _∙_}
 use mathlib.Core.List.{List}
 use lib.ListN.{length, getD, replicate, getD-replicate, length-replicate}
 use Rattle.sums.specs.Tables.{cell, tab, square}
 use Rattle.sums.proofs.Sums.{sum-most}
-use Rattle.sums.proofs.Tables.{length-square, square-cell, square-ext, tab-ext, length-tab, place-split}
+use Rattle.sums.proofs.Tables.{length-square, square-cell, square-ext, tab-ext, place-split}
 use Rattle.star.specs.Tables.{Demands}
 use Rattle.star.specs.Lines.{onLine, lineSum}
 use Rattle.star.proofs.LineLaws.{on-line-most}
-use Rattle.fair.specs.Fair.{Cutting, taken, cutLine, step, steps, uncut, fairKept}
-use Rattle.fair.specs.Cuts.{cutting, Counted, Sound, Least, Comparable, Next, CanCutLine, LineCut, CanCutAll, CanCutExactly}
+use Rattle.fair.specs.Fair.{taken, cutLine, step, steps, uncut, fairKept}
+use Rattle.fair.specs.Cuts.{cutting, Counted, Sound, Comparable, Next, CanCutLine, LineCut, CanCutAll, CanCutExactly}
 use Rattle.fair.proofs.LineCuts.{line-split}
 use Rattle.fair.proofs.Steps.{steps-sound, steps-below, steps-shrink, steps-still, step-cuts, found, uncut-a, uncut-b}
 
@@ -35,15 +35,16 @@ line-most n d ℓ few h hl = omega (arith, sum-most n 65535 (onLine n d ℓ) (λ
 -- matrices with no larger cell than the demands hold demands
 pub demands-below : (n : ℕ) (d e : List ℕ) → Demands n d → ((i j : ℕ) → i < n → j < n → cell n e i j ≤ cell n d i j) → Demands n e
 unfolding cell
-demands-below n d e h le = record { most = λ p hp.
-    let q = place-split n p hp in
-    omega (
-      arith,
-      ap (λ x. getD e x 0) (q .1 .1),
-      ap (λ x. getD d x 0) (q .1 .1),
-      le (p / n) (p % n) (q .0) (q .1 .0),
-      h .most p hp,
-    )
+demands-below n d e h le = record {
+  most = λ p hp.
+      let q = place-split n p hp in
+      omega (
+        arith,
+        ap (λ x. getD e x 0) (q .1 .1),
+        ap (λ x. getD d x 0) (q .1 .1),
+        le (p / n) (p % n) (q .0) (q .1 .0),
+        h .most p hp,
+      );
 }
 
 -- ---- the steps
@@ -58,7 +59,7 @@ module _ (n : ℕ) (cap d done₀ a₀ b₀ : List ℕ) (h : CanCutAll n cap d d
   stepped-start = record {
     upto = omega arith;
     state = ap₂ cutting (sym (square-same n d (h .cells))) (h .none);
-    counted = h .counted
+    counted = h .counted;
   }
 
   module _ {kept done a b : List ℕ} {k : ℕ} (S : Stepped n cap d kept done a b k) where
@@ -71,9 +72,9 @@ module _ (n : ℕ) (cap d done₀ a₀ b₀ : List ℕ) (h : CanCutAll n cap d d
       capacities = h .capacities;
       room = S .counted .room;
       most = λ ℓ hl.
-      let shrunk : lineSum n kept ℓ ≤ lineSum n d ℓ = rw (ap (λ s. s .values) (S .state)) (steps-shrink n cap d k ℓ hl) in
-      omega (arith, S .counted .unmodified ℓ hl, S .counted .modified ℓ hl, line-split n (cutting kept done) ℓ, line-most n d ℓ (h .nodes) (h .demands) hl);
-      within = λ ℓ hl. omega (arith, S .counted .modified ℓ hl, stepped-sound .within ℓ hl)
+          let shrunk : lineSum n kept ℓ ≤ lineSum n d ℓ = rw (ap (λ s. s .values) (S .state)) (steps-shrink n cap d k ℓ hl) in
+          omega (arith, S .counted .unmodified ℓ hl, S .counted .modified ℓ hl, line-split n (cutting kept done) ℓ, line-most n d ℓ (h .nodes) (h .demands) hl);
+      within = λ ℓ hl. omega (arith, S .counted .modified ℓ hl, stepped-sound .within ℓ hl);
     }
 
     module _ {ℓ : ℕ} (x : Next n cap a b (2 * n) ℓ) where
@@ -89,7 +90,7 @@ module _ (n : ℕ) (cap d done₀ a₀ b₀ : List ℕ) (h : CanCutAll n cap d d
           demands = demands-below n d kept (h .demands) (rw (ap (λ s. s .values) (S .state)) (steps-below n cap d k));
           counted = S .counted;
           sound = stepped-sound;
-          least = rw is (found n cap (cutting kept done) stepped-sound (omega (arith, is)))
+          least = rw is (found n cap (cutting kept done) stepped-sound (omega (arith, is)));
         }
 
         pub stepped-more : {kept' done' a' b' : List ℕ} → k < 2 * n → LineCut n cap kept done a b ℓ kept' done' a' b' → Stepped n cap d kept' done' a' b' (k + 1)
@@ -97,12 +98,12 @@ module _ (n : ℕ) (cap d done₀ a₀ b₀ : List ℕ) (h : CanCutAll n cap d d
         stepped-more hk C = record {
           upto = omega arith;
           state =
-          C .state
-          ∙ ap (cutLine n cap (cutting kept done)) is
-          ∙ sym (step-cuts n cap (cutting kept done) (omega (arith, is)))
-          ∙ ap (step n cap) (S .state)
-          ∙ ap (steps n cap (uncut n d)) (sym (add-one k));
-          counted = C .counted
+              C .state
+              ∙ ap (cutLine n cap (cutting kept done)) is
+              ∙ sym (step-cuts n cap (cutting kept done) (omega (arith, is)))
+              ∙ ap (step n cap) (S .state)
+              ∙ ap (steps n cap (uncut n d)) (sym (add-one k));
+          counted = C .counted;
         }
 
       -- none is left: further steps change nothing
@@ -135,8 +136,8 @@ module _ (n : ℕ) (cap d kept done : List ℕ) (h : CanCutExactly n cap d kept 
     counted = rw copied-uncut (record {
       room = (omega (arith, h .square .nodes), rw (zeros, length-replicate {A = ℕ} 128 0) (omega (arith, h .square .nodes)));
       unmodified = λ ℓ hl. sums ℓ hl ∙ sym (uncut-a n d ℓ hl);
-      modified = λ ℓ hl. rw (zeros, getD-replicate {A = ℕ} 128 ℓ 0 0 (omega (arith, h .square .nodes))) (sym (uncut-b n d ℓ hl))
-    })
+      modified = λ ℓ hl. rw (zeros, getD-replicate {A = ℕ} 128 ℓ 0 0 (omega (arith, h .square .nodes))) (sym (uncut-b n d ℓ hl));
+    });
   }
 
   -- the rule reads the n * n cells alone

@@ -2,20 +2,20 @@
 -- Cutting the line γ with the least fraction p/q keeps it. On γ the new cells sum to at most p. A line β still too long that loses the cell v has p×a ≤ (L−b)×q by the choice of γ,
 -- and v ≤ a: so v×p/q rounded down is at most L−b. No cell grows. Each step that cuts cuts a line more, so after 2N steps none exceeds.
 -- The laws ask nothing of demands and capacities. Assumes nothing.
-use Prim.Native.Nat.{ℕ, zero, suc, _+_, _-_, _*_, _/_, _≤_, _<_}
+use Prim.Native.Nat.{ℕ, zero, suc, _+_, _*_, _/_, _≤_, _<_}
 use native.Mathlib.Omega.{arith}
 use mathlib.Core.Path.{_≡_, refl, sym, ap, _∙_}
-use mathlib.Core.Bool.{Bool, true, false, cond, _||_}
+use mathlib.Core.Bool.{Bool, true, false, _||_}
 use mathlib.Core.Logic.{_⊎_, inl, inr, ⊎-elim}
 use mathlib.Core.List.{List}
-use lib.ListN.{length, getD, set, replicate, length-set, length-replicate, getD-replicate}
+use lib.ListN.{length, getD, length-set, length-replicate, getD-replicate}
 use lib.Seq.{getD-set-same, getD-set-other}
 use lib.Dec.{ltb, eqb}
 use borrow.Author.Tests.{lt-ltb, le-ltb, ltb-true}
 use Rattle.sums.specs.Sums.{sumTo, bit}
-use Rattle.sums.specs.Tables.{cell, square}
+use Rattle.sums.specs.Tables.{cell}
 use Rattle.sums.proofs.Cases.{by-eq, by-lt}
-use Rattle.sums.proofs.Sums.{sum-ext, sum-all-zero, sum-mono, sum-bump, sum-tight}
+use Rattle.sums.proofs.Sums.{sum-all-zero, sum-mono, sum-bump, sum-tight}
 use Rattle.sums.proofs.Tables.{length-square, square-cell}
 use Rattle.star.specs.Lines.{sourceOn, destinationOn, crossing, onLine, lineSum, Admissible}
 use Rattle.star.proofs.LineLaws.{source-lt, destination-lt, line-ext}
@@ -23,7 +23,7 @@ use Rattle.fair.specs.Fair.{Cutting, modified, modifiedSum, unmodifiedSu
 use Rattle.fair.specs.Cuts.{Sound, Least}
 use Rattle.fair.proofs.Crossings.{Meet, Beside, two-lines, crossing-lt}
 use Rattle.fair.proofs.Fractions.{floor-most, floor-less, floor-none, floors-most}
-use Rattle.fair.proofs.LineCuts.{loose, looseOn, unmodified-is, modified-is, modified-on, cell-split, line-split, value-on-cut, value-off-cut, own-unmodified, own-modified, crossed-unmodified, crossed-modified, beside-unmodified, beside-modified}
+use Rattle.fair.proofs.LineCuts.{loose, looseOn, unmodified-is, modified-on, cell-split, line-split, value-on-cut, value-off-cut, own-unmodified, own-modified, crossed-unmodified, crossed-modified, beside-unmodified, beside-modified}
 use Rattle.fair.proofs.Choices.{Quiet, taken-least, taken-none}
 
 -- a line other than the one cut with p/q: the cell v goes over from a to b as v×p/q rounded down (v is 0 where nothing does)
@@ -83,12 +83,12 @@ module _ (n : ℕ) (cap : List ℕ) (s : Cutting) (h : Sound n cap s) where
         (λ (x : Meet n ℓ m). record {
           v = looseOn n s ℓ (x .w);
           less = crossed-unmodified n cap s ℓ at m hm ne x;
-          more = crossed-modified n cap s ℓ at m hm ne x
+          more = crossed-modified n cap s ℓ at m hm ne x;
         })
         (λ (x : Beside n ℓ m). record {
           v = 0;
           less = omega (arith, beside-unmodified n cap s ℓ at m hm ne x);
-          more = omega (arith, beside-modified n cap s ℓ at m hm ne x, floor-none (numerator n cap s ℓ) (unmodifiedSum n s ℓ))
+          more = omega (arith, beside-modified n cap s ℓ at m hm ne x, floor-none (numerator n cap s ℓ) (unmodifiedSum n s ℓ));
         })
         (two-lines n ℓ m (γ .line) hm)
 
@@ -143,7 +143,7 @@ module _ (n : ℕ) (cap : List ℕ) (s : Cutting) (h : Sound n cap s) where
       cells = cut-lengths .0;
       flags = cut-lengths .1;
       within = λ m hm. by-eq m ℓ (λ e. rw e (omega (arith, own-fits, line-split n (cutLine n cap s ℓ) ℓ))) (passed-within m hm);
-      closed = λ m hm f. by-eq m ℓ (λ e. rw e own-fits) (λ ne. omega (arith, line-shrinks m hm, h .closed m hm (omega (arith, flag-kept m ne))))
+      closed = λ m hm f. by-eq m ℓ (λ e. rw e own-fits) (λ ne. omega (arith, line-shrinks m hm, h .closed m hm (omega (arith, flag-kept m ne))));
     }
 
 -- ---- steps
@@ -209,7 +209,7 @@ module _ (n : ℕ) (d : List ℕ) where
     cells = uncut-lengths .0;
     flags = uncut-lengths .1;
     within = λ m hm. omega (arith, uncut-b m hm);
-    closed = λ m hm f. absurd (omega (arith, uncut-flag m hm))
+    closed = λ m hm f. absurd (omega (arith, uncut-flag m hm));
   }
 
 -- ---- the end
@@ -237,8 +237,9 @@ module _ (n : ℕ) (cap : List ℕ) where
   -- where all lines have been cut none exceeds
   all-cut : (s : Cutting) → Sound n cap s → 2 * n ≤ cuts n s → Quiet n cap s (2 * n)
   unfolding cuts
-  all-cut s h all = record { under = λ m hm.
-      h .closed m hm (ltb-true 0 (getD (s .done) m 0) (bit-one (ltb 0 (getD (s .done) m 0)) (sum-tight (2 * n) 1 (λ m. bit (ltb 0 (getD (s .done) m 0))) (λ k p. bit-most (ltb 0 (getD (s .done) k 0))) (omega arith) m hm)))
+  all-cut s h all = record {
+    under = λ m hm.
+        h .closed m hm (ltb-true 0 (getD (s .done) m 0) (bit-one (ltb 0 (getD (s .done) m 0)) (sum-tight (2 * n) 1 (λ m. bit (ltb 0 (getD (s .done) m 0))) (λ k p. bit-most (ltb 0 (getD (s .done) k 0))) (omega arith) m hm)));
   }
 
   module _ (d : List ℕ) where

@@ -1,21 +1,20 @@
 // Which line is cut next: of those above their capacity the one with the smallest fraction (L−b)/a; on a tie, the lowest.
-ghost use mathlib.Core.Path.{_≡_};
-ghost use Prim.Native.Nat.{_*_, _<_, _≤_};
+ghost use Prim.Native.Nat.{_*_, _<_};
 ghost use Rattle.fair.specs.Cuts.{Comparable, Ahead, Next};
 
-// Whether line m is to be taken rather than p, the line taken so far (2n where there is none).
-fn ahead(n: usize, cap: &[u32], a: &[u32], b: &[u32], m: usize, p: usize) -> bool
+// Whether a line is to be taken rather than the one found so far (2n where there is none).
+fn ahead(n: usize, cap: &[u32], a: &[u32], b: &[u32], line: usize, found: usize) -> bool
     requires { ⌜ Comparable n (now cap) (now a) (now b) ⌝ }
-    requires { ⌜ m < 2 * n ⌝ }
-    ensures { λ r. ⌜ Ahead n (now (cap .entry)) (now (a .entry)) (now (b .entry)) m p r ⌝ }
+    requires { ⌜ line < 2 * n ⌝ }
+    ensures { λ r. ⌜ Ahead n (now (cap .entry)) (now (a .entry)) (now (b .entry)) line found r ⌝ }
 {
-    if a[m] + b[m] <= cap[m] {
+    if a[line] + b[line] <= cap[line] {
         return false;
     }
-    if p >= 2 * n {
+    if found >= 2 * n {
         return true;
     }
-    (cap[m] - b[m]) * a[p] < (cap[p] - b[p]) * a[m]
+    (cap[line] - b[line]) * a[found] < (cap[found] - b[found]) * a[line]
 }
 
 // The line to cut next, or 2n where no line is above its capacity.
@@ -24,12 +23,12 @@ pub fn next_line(n: usize, cap: &[u32], a: &[u32], b: &[u32]) -> usize
     ensures { λ r. ⌜ Next n (now (cap .entry)) (now (a .entry)) (now (b .entry)) (2 * n) r ⌝ }
 {
     let mut found = 2 * n;
-    let mut m = 0;
-    while m < 2 * n {
-        if ahead(n, cap, a, b, m, found) {
-            found = m;
+    let mut line = 0;
+    while line < 2 * n {
+        if ahead(n, cap, a, b, line, found) {
+            found = line;
         }
-        m += 1;
+        line += 1;
     }
     found
 }

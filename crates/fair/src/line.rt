@@ -30,7 +30,16 @@ fn put_on_line(n: usize, table: &mut [u32], line: usize, t: usize, x: u32)
 }
 
 // An unmodified cell v of a line becomes v×p/q rounded down, and goes over from a to b on the line that crosses there.
-fn cut_cell(n: usize, kept: &mut [u32], a: &mut [u32], b: &mut [u32], line: usize, t: usize, p: u32, q: u32) -> u32
+fn cut_cell(
+    n: usize,
+    kept: &mut [u32],
+    a: &mut [u32],
+    b: &mut [u32],
+    line: usize,
+    t: usize,
+    p: u32,
+    q: u32,
+) -> u32
     requires { ⌜ CanCutCell n (now kept) (now a) (now b) line t p q ⌝ }
     ensures { λ r. ⌜ CellCut n (now (kept .entry)) (now (a .entry)) (now (b .entry)) line t p q (now (kept .exit)) (now (a .exit)) (now (b .exit)) r ⌝ }
 {
@@ -44,7 +53,15 @@ fn cut_cell(n: usize, kept: &mut [u32], a: &mut [u32], b: &mut [u32], line: usiz
 }
 
 // A line is cut, and the sums of all lines follow. A cell is modified already where the line that crosses there has been cut.
-pub fn cut_line(n: usize, cap: &[u32], kept: &mut [u32], done: &mut [u8], a: &mut [u32], b: &mut [u32], line: usize)
+pub fn cut_line(
+    n: usize,
+    cap: &[u32],
+    kept: &mut [u32],
+    done: &mut [u8],
+    a: &mut [u32],
+    b: &mut [u32],
+    line: usize,
+)
     requires { ⌜ CanCutLine n (now cap) (now kept) (now done) (now a) (now b) line ⌝ }
     ensures { λ _. ⌜ LineCut n (now (cap .entry)) (now (kept .entry)) (now (done .entry)) (now (a .entry)) (now (b .entry)) line (now (kept .exit)) (now (done .exit)) (now (a .exit)) (now (b .exit)) ⌝ }
 {

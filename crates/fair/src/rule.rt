@@ -53,18 +53,7 @@ fn cut_all(n: usize, cap: &[u32], kept: &mut [u32], done: &mut [u8], a: &mut [u3
     }
 }
 
-// The slots that each pair keeps under the fair rule, from its demands and the capacities of the 2n lines.
-pub fn cut(n: usize, cap: &[u32], demand: &[u32], kept: &mut [u32])
-    requires { ⌜ CanCut n (now cap) (now demand) (now kept) ⌝ }
-    ensures { λ _. ⌜ now (kept .exit) ≡ written (n * n) (fairKept n (now (cap .entry)) (now (demand .entry))) (now (kept .entry)) ⌝ }
-{
-    let mut done = [0u8; 128];
-    let cells = n * n;
-    let lines = 2 * n;
-    cut_exactly(n, cap, demand, &mut kept[..cells], &mut done[..lines]);
-}
-
-// The same, for a table of n * n cells and a flag for each line.
+// What the rule keeps of the demands, into a table of n * n cells, with a flag for each line to work with.
 fn cut_exactly(n: usize, cap: &[u32], demand: &[u32], kept: &mut [u32], done: &mut [u8])
     requires { ⌜ CanCutExactly n (now cap) (now demand) (now kept) (now done) ⌝ }
     ensures { λ _. ⌜ now (kept .exit) ≡ fairKept n (now (cap .entry)) (now (demand .entry)) ⌝ }
@@ -74,4 +63,15 @@ fn cut_exactly(n: usize, cap: &[u32], demand: &[u32], kept: &mut [u32], done: &m
     copy(demand, kept);
     line_sums(n, demand, &mut a);
     cut_all(n, cap, kept, done, &mut a, &mut b);
+}
+
+// The slots that each pair keeps under the fair rule, from its demands and the capacities of the 2n lines; further cells of kept stay as they are.
+pub fn cut(n: usize, cap: &[u32], demand: &[u32], kept: &mut [u32])
+    requires { ⌜ CanCut n (now cap) (now demand) (now kept) ⌝ }
+    ensures { λ _. ⌜ now (kept .exit) ≡ written (n * n) (fairKept n (now (cap .entry)) (now (demand .entry))) (now (kept .entry)) ⌝ }
+{
+    let mut done = [0u8; 128];
+    let cells = n * n;
+    let lines = 2 * n;
+    cut_exactly(n, cap, demand, &mut kept[..cells], &mut done[..lines]);
 }

@@ -1,21 +1,16 @@
+-- `crossing` gives the line that crosses: by the cases row and column. Assumes nothing.
 use Rattle.fair.proofs.Crossings.{crossing-row, crossing-column}
 use mathlib.Core.Path.{sym}
-use native.Mathlib.Omega.{arith}
 use borrow.Author.Needs.{needs}
 use Rattle.fair.proofs.line.crossing.Statement.{statement}
 use Rattle.fair.proofs.line.crossing.Tie as tie
-use Rattle.fair.proofs.line.crossing.Reads as reads
-use Rattle.fair.proofs.line.crossing.Lts as lts
 
--- src/line.rt:16:19
 add-result : tie.Need-add-result
 add-result c = search needs
 
--- src/line.rt:12:1
 returns : tie.Need-returns
 returns c = sym (crossing-row _ _ _ (c .if1 .taken))
 
--- src/line.rt:12:1
 returns-2 : tie.Need-returns-2
 returns-2 c = sym (crossing-column _ _ _ (c .if1 .left))
 
