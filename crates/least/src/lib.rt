@@ -1,1 +1,2 @@
-// The least rule: a greatest withdrawn matrix, and what is kept given it.
+// The least rule: what is kept of a demand, given a greatest withdrawn matrix.
+pub mod kept;
