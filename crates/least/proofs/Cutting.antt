@@ -5,20 +5,21 @@ use Prim.Native.Nat.{ℕ, _+_, _-_, _*_, _/_, _%_, _≤_, _<_}
 use native.Mathlib.Omega.{arith}
 use mathlib.Core.Path.{_≡_, refl, sym, _∙_, ap}
 use mathlib.Core.Bool.{true, false, false≢true}
-use mathlib.Core.List.{List}
-use lib.ListN.{length, getD}
+use mathlib.Core.List.{List, _++_}
+use lib.ListN.{length, getD, take, drop}
+use lib.Seq.{take-at, drop-at}
 use borrow.Author.Tests.{lt-ltb, le-ltb}
-use Rattle.sums.specs.Tables.{cell, square}
+use Rattle.sums.specs.Tables.{cell, square, written}
 use Rattle.sums.proofs.Cases.{by-eq, by-lt}
 use Rattle.sums.proofs.Tables.{length-square, square-cell, square-ext, place-split}
 use Rattle.star.specs.Tables.{Square, Demands, Capacities}
 use Rattle.star.specs.Lines.{onLine, lineSum}
 use Rattle.star.proofs.LineLaws.{on-row, on-column}
-use Rattle.least.specs.Least.{longer, shared, MeetInZero, keptCell}
-use Rattle.least.specs.Promises.{Rewritten, Line, LineShared, CanShare}
+use Rattle.least.specs.Least.{longer, shared, MeetInZero, left, keptCell, keptFrom}
+use Rattle.least.specs.Promises.{Rewritten, Line, LineShared, CanShare, CanKeep}
 use Rattle.least.proofs.Sums.{by-test}
 use Rattle.least.proofs.Lines.{in-column, line-mono}
-use Rattle.least.proofs.Remains.{shorter-is}
+use Rattle.least.proofs.Remains.{length-left, left-below, shorter-is, two-longer-lines-meet-in-zero}
 use Rattle.least.proofs.Shares.{longer-same, shared-same}
 use Rattle.least.proofs.Keeping.{row-shared-below, column-shared-below, kept-row, kept-column, kept-other}
 
@@ -129,3 +130,24 @@ module _ {n : ℕ} {cap e : List ℕ} where
       (λ h. c .columns i j p q (omega arith) h ∙ sym (kept-column n cap e apart i j p q h))
       (λ h. c .others i j p q (λ _. l) (λ _. h) ∙ sym (kept-other n cap e i j l h)))
       ∙ sym (square-cell n (keptCell n cap e) i j p q))
+
+-- ---- E in the first cells of a longer table
+module _ {n : ℕ} {cap d a k : List ℕ} (c : CanKeep n cap d a k) (x : List ℕ) (e : x ≡ left n d a) where
+  front : take (n * n) (x ++ drop (n * n) k) ≡ left n d a
+  front = take-at x (drop (n * n) k) (n * n) (ap length e ∙ length-left n d a) ∙ e
+
+  pub front-fits : n * n ≡ length (take (n * n) (x ++ drop (n * n) k))
+  front-fits = sym (ap length front ∙ length-left n d a)
+
+  pub front-can-share : CanShare n cap (take (n * n) (x ++ drop (n * n) k))
+  front-can-share = rw front (record {
+    nodes = c .demand .nodes;
+    exact = length-left n d a;
+    demands = demands-below n d (left n d a) (left-below n d a) (c .demands);
+    capacities = c .capacities;
+    apart = two-longer-lines-meet-in-zero (c .greatest);
+  })
+
+  pub kept-written : (y : List ℕ) → y ≡ square n (keptCell n cap (take (n * n) (x ++ drop (n * n) k))) → y ++ drop (n * n) (x ++ drop (n * n) k) ≡ written (n * n) (keptFrom n cap d a) k
+  unfolding written keptFrom
+  kept-written y f = rw (f, front, drop-at x (drop (n * n) k) (n * n) (ap length e ∙ length-left n d a)) refl

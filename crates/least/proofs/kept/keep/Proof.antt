@@ -1,3 +1,8 @@
+use Rattle.least.proofs.Cutting.{front-fits, front-can-share, kept-written}
+use Rattle.least.proofs.Remains.{withdrawn-below}
+use lib.Seq.{length-take-le}
+use mathlib.Core.Path.{_≡_, sym, _∙_, ap}
+use native.Mathlib.Omega.{arith}
 use borrow.Author.Needs.{needs}
 use Rattle.least.proofs.kept.keep.Statement.{statement}
 use Rattle.least.proofs.kept.keep.Tie as tie
@@ -16,11 +21,11 @@ slice-relend-prefix-leave c = search needs
 
 -- src/kept.rt:151:33
 slice-aggregate-leave : tie.Need-slice-aggregate-leave
-slice-aggregate-leave c = ?
+slice-aggregate-leave c = sym (length-take-le _ _ (c .before .before .before .before .before .pre .kept .cells))
 
 -- src/kept.rt:151:5
 leave-requires : tie.Need-leave-requires
-leave-requires c κs = ?
+leave-requires c κs = ((c .before .before .before .before .before .pre .demand, c .before .before .before .before .before .pre .withdrawn), (length-take-le _ _ (c .before .before .before .before .before .pre .kept .cells), withdrawn-below (c .before .before .before .before .before .pre .greatest .withdrawn)))
 
 -- src/kept.rt:152:25
 slice-relend-prefix-share-lines : tie.Need-slice-relend-prefix-share-lines
@@ -28,11 +33,11 @@ slice-relend-prefix-share-lines c = search needs
 
 -- src/kept.rt:152:25
 slice-aggregate-share-lines : tie.Need-slice-aggregate-share-lines
-slice-aggregate-share-lines c = ?
+slice-aggregate-share-lines c = front-fits (c .before .before .before .before .before .before .before .before .before .pre) _ (c .before .before .before .leave .ensures)
 
 -- src/kept.rt:152:5
 share-lines-requires : tie.Need-share-lines-requires
-share-lines-requires c κs = ?
+share-lines-requires c κs = front-can-share (c .before .before .before .before .before .before .before .before .before .pre) _ (c .before .before .before .leave .ensures)
 
 -- src/kept.rt:146:1
 same-length : tie.Need-same-length
@@ -40,7 +45,7 @@ same-length c = search needs
 
 -- src/kept.rt:146:1
 returns : tie.Need-returns
-returns c = ?
+returns c = kept-written (c .before .before .before .before .before .before .before .before .before .before .before .before .pre) _ (c .before .before .before .before .before .before .leave .ensures) _ (c .before .before .share-lines .ensures)
 
 pub keep-spec : {M : Type 1} → statement M
 keep-spec =

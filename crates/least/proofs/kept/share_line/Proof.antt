@@ -1,3 +1,8 @@
+use Rattle.least.proofs.Stores.{rewritten-same}
+use Rattle.least.proofs.Shares.{share-most, divided-shares}
+use Rattle.least.proofs.Remains.{longer-is, shorter-is}
+use mathlib.Core.Path.{refl}
+use native.Mathlib.Omega.{arith}
 use borrow.Author.Needs.{needs}
 use Rattle.least.proofs.kept.share_line.Statement.{statement}
 use Rattle.least.proofs.kept.share_line.Tie as tie
@@ -25,7 +30,7 @@ same-length c = search needs
 
 -- src/kept.rt:124:9
 returns : tie.Need-returns
-returns c = ?
+returns c = record { cut = λ l. absurd (omega (arith, longer-is (c .before .before .before .before .before .before .args .n) (c .before .before .before .before .before .before .args .cap .now) (c .before .before .before .before .before .before .args .table .now) (c .before .before .before .before .before .before .args .line) l, c .before .before .line-sum .ensures .0)); uncut = λ l. refl }
 
 -- src/kept.rt:128:47
 slice-aggregate-divide : tie.Need-slice-aggregate-divide
@@ -37,7 +42,7 @@ slice-aggregate-divide-2 c = search needs
 
 -- src/kept.rt:128:9
 divide-requires : tie.Need-divide-requires
-divide-requires c κs = ?
+divide-requires c κs = (c .before .before .before .before .before .before .before .before .before .pre, ((c .before .before .before .before .before .before .before .before .before .pre .square .nodes, c .before .before .before .before .before .before .before .before .before .pre .square .nodes), omega (arith, c .before .before .before .before .before .line-sum .ensures .0)))
 
 -- src/kept.rt:129:26
 slice-aggregate-give : tie.Need-slice-aggregate-give
@@ -49,7 +54,7 @@ slice-aggregate-give-2 c = search needs
 
 -- src/kept.rt:129:5
 give-requires : tie.Need-give-requires
-give-requires c κs = ?
+give-requires c κs = ((c .before .before .before .before .before .before .before .before .before .before .before .before .before .before .before .pre .square, c .before .before .before .before .before .before .before .before .before .before .before .before .before .before .before .pre .line), ((omega (arith, c .before .before .before .before .before .before .before .before .before .before .before .before .before .before .before .pre .square .nodes, c .before .before .before .before .before .divide .kept), omega (arith, c .before .before .before .before .before .before .before .before .before .before .before .before .before .before .before .pre .square .nodes, c .before .before .before .before .before .divide .kept)), λ t h. omega (arith, c .before .before .before .before .before .divide .ensures .each t h, share-most (c .before .before .before .before .before .before .before .before .before .before .before .before .before .before .before .pre) t h)))
 
 -- src/kept.rt:119:1
 same-length-2 : tie.Need-same-length-2
@@ -57,7 +62,10 @@ same-length-2 c = search needs
 
 -- src/kept.rt:119:1
 returns-2 : tie.Need-returns-2
-returns-2 c = ?
+returns-2 c = record {
+      cut = λ l. rewritten-same _ _ _ _ _ _ (λ t h. divided-shares _ _ _ _ _ _ _ (c .before .before .before .before .before .before .before .before .divide .ensures) t h) (c .before .before .give .ensures);
+      uncut = λ l. absurd (omega (arith, shorter-is (c .before .before .before .before .before .before .before .before .before .before .before .before .before .before .before .before .before .before .args .n) (c .before .before .before .before .before .before .before .before .before .before .before .before .before .before .before .before .before .before .args .cap .now) (c .before .before .before .before .before .before .before .before .before .before .before .before .before .before .before .before .before .before .args .table .now) (c .before .before .before .before .before .before .before .before .before .before .before .before .before .before .before .before .before .before .args .line) l, c .before .before .before .before .before .before .before .before .before .before .before .before .before .before .line-sum .ensures .0, c .before .before .before .before .before .before .before .before .before .before .before .before .if1));
+    }
 
 pub share-line-spec : {M : Type 1} → statement M
 share-line-spec =
