@@ -8,15 +8,15 @@ use mathlib.Core.Bool.{true, false, false≢true}
 use mathlib.Core.List.{List, _++_}
 use lib.ListN.{length, getD, take, drop}
 use lib.Seq.{take-at, drop-at}
-use borrow.Author.Tests.{lt-ltb, le-ltb}
+use borrow.Author.Tests.{le-ltb}
 use Rattle.sums.specs.Tables.{cell, square, written}
 use Rattle.sums.proofs.Cases.{by-eq, by-lt}
 use Rattle.sums.proofs.Tables.{length-square, square-cell, square-ext, place-split}
-use Rattle.star.specs.Tables.{Square, Demands, Capacities}
+use Rattle.star.specs.Tables.{Demands}
 use Rattle.star.specs.Lines.{onLine, lineSum}
 use Rattle.star.proofs.LineLaws.{on-row, on-column}
 use Rattle.least.specs.Least.{longer, shared, MeetInZero, left, keptCell, keptFrom}
-use Rattle.least.specs.Promises.{Rewritten, Line, LineShared, CanShare, CanKeep}
+use Rattle.least.specs.Promises.{Rewritten, LineShared, CanShare, CanKeep}
 use Rattle.least.proofs.Sums.{by-test}
 use Rattle.least.proofs.Lines.{in-column, line-mono}
 use Rattle.least.proofs.Remains.{length-left, left-below, shorter-is, two-longer-lines-meet-in-zero}
@@ -34,9 +34,9 @@ pub demands-below : (n : ℕ) (e k : List ℕ) → ((i j : ℕ) → i < n → j 
 unfolding cell
 demands-below n e k below d = record {
   most = λ p h.
-    let at = place-split n p h in
-    let less = below (p / n) (p % n) (at .0) (at .1 .0) in
-    omega (arith, d .most p h, rw (at .1 .1) at less);
+      let at = place-split n p h in
+      let less = below (p / n) (p % n) (at .0) (at .1 .0) in
+      omega (arith, d .most p h, rw (at .1 .1) at less);
 }
 
 module _ {n : ℕ} {cap e : List ℕ} where
@@ -80,20 +80,20 @@ module _ {n : ℕ} {cap e : List ℕ} where
     cutting-cut : MeetInZero n cap e → (k' : List ℕ) → longer n cap e m ≡ true → Rewritten n m (shared n cap e m) k k' → Cutting n cap e (m + 1) k'
     cutting-cut apart k' l r = record {
       rows = λ i j p q h li.
-        by-eq i m
-        (λ s. here-row i j p q s)
-        (λ ni. by-eq (n + j) m
-        (λ s. omega (arith, here-column i j p s, row-shared-below n cap e i j p li, column-shared-below n cap e i j (ap (longer n cap e) s ∙ l), apart .zero i j p q li (ap (longer n cap e) s ∙ l)))
-        (λ nj. r .off i j p q ni nj ∙ c .rows i j p q (omega arith) li));
+          by-eq i m
+          (λ s. here-row i j p q s)
+          (λ ni. by-eq (n + j) m
+          (λ s. omega (arith, here-column i j p s, row-shared-below n cap e i j p li, column-shared-below n cap e i j (ap (longer n cap e) s ∙ l), apart .zero i j p q li (ap (longer n cap e) s ∙ l)))
+          (λ nj. r .off i j p q ni nj ∙ c .rows i j p q (omega arith) li));
       columns = λ i j p q h lj.
-        by-eq (n + j) m
-        (λ s. here-column i j p s)
-        (λ nj. r .off i j p q (λ s. omega arith) nj ∙ c .columns i j p q (omega arith) lj);
+          by-eq (n + j) m
+          (λ s. here-column i j p s)
+          (λ nj. r .off i j p q (λ s. omega arith) nj ∙ c .columns i j p q (omega arith) lj);
       others = λ i j p q row column.
-        r .off i j p q
-        (λ s. false≢true (sym (row (omega arith)) ∙ ap (longer n cap e) s ∙ l))
-        (λ s. false≢true (sym (column (omega arith)) ∙ ap (longer n cap e) s ∙ l))
-        ∙ c .others i j p q (λ h. row (omega arith)) (λ h. column (omega arith));
+          r .off i j p q
+          (λ s. false≢true (sym (row (omega arith)) ∙ ap (longer n cap e) s ∙ l))
+          (λ s. false≢true (sym (column (omega arith)) ∙ ap (longer n cap e) s ∙ l))
+          ∙ c .others i j p q (λ h. row (omega arith)) (λ h. column (omega arith));
     }
       where
         here-row : (i j : ℕ) → i < n → j < n → i ≡ m → cell n k' i j ≡ shared n cap e i j

@@ -65,9 +65,9 @@ module _ (n ℓ : ℕ) (f : ℕ → ℕ) where
   pub rewriting-more : (m : ℕ) (k k' : List ℕ) (x : ℕ) → ℓ < 2 * n → m < n → n * n ≤ length k' → x ≡ f m → Rewriting n ℓ f m k k' → Rewriting n ℓ f (m + 1) k (set k' (sourceOn n ℓ m * n + destinationOn n ℓ m) x)
   rewriting-more m k k' x hl hm fits e r = record {
     on = λ t h.
-      by-eq t m
-      (λ s. ap (onLine n _ ℓ) s ∙ store-here n ℓ m x k' hl hm fits ∙ e ∙ ap f (sym s))
-      (λ ne. store-other n ℓ m x k' hl hm t (omega arith) ne ∙ r .on t (omega arith));
+        by-eq t m
+        (λ s. ap (onLine n _ ℓ) s ∙ store-here n ℓ m x k' hl hm fits ∙ e ∙ ap f (sym s))
+        (λ ne. store-other n ℓ m x k' hl hm t (omega arith) ne ∙ r .on t (omega arith));
     off = λ i j p q a b. store-off n ℓ m x k' hl hm i j q a b ∙ r .off i j p q a b;
   }
 

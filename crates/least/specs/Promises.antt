@@ -3,11 +3,10 @@ use Prim.Native.Nat.{ℕ, _+_, _*_, _≤_, _<_}
 use mathlib.Core.Path.{_≡_}
 use mathlib.Core.Bool.{true, false}
 use mathlib.Core.List.{List}
-use lib.ListN.{length, getD, drop}
-use Rattle.sums.specs.Tables.{cell, tab}
+use lib.ListN.{length, getD}
+use Rattle.sums.specs.Tables.{cell}
 use Rattle.star.specs.Tables.{Square, Demands, Capacities}
-use Rattle.star.specs.Lines.{onLine, lineSum, excess}
-use Rattle.flow.specs.Flows.{Closed}
+use Rattle.star.specs.Lines.{onLine}
 use Rattle.least.specs.Least.{Greatest, longer, share, remainder, missing, shared, MeetInZero}
 
 -- ---- a line of a table

@@ -9,7 +9,7 @@ ghost use lib.Dec.{ltb, eqb};
 ghost use lib.ListN.{length, getD, set};
 ghost use Rattle.sums.specs.Sums.{bit};
 ghost use Rattle.sums.specs.Tables.{written};
-ghost use Rattle.star.specs.Tables.{Square, Demands};
+ghost use Rattle.star.specs.Tables.{Square};
 ghost use Rattle.star.specs.Lines.{sourceOn, destinationOn, lineSum};
 ghost use Rattle.least.specs.Least.{left, rank, keptCell, keptFrom};
 ghost use Rattle.least.specs.Promises.{Rewritten, Line, Divided, LineShared, CanShare, CanKeep};
@@ -44,7 +44,14 @@ fn leave(n: usize, demand: &[u32], withdrawn: &[u32], table: &mut [u32])
 }
 
 // Divides the capacity of a line too long: the share of each cell, the remainder of each, and the slots still missing.
-fn divide(n: usize, cap: &[u32], table: &[u32], line: usize, shares: &mut [u32], remainders: &mut [u32]) -> u32
+fn divide(
+    n: usize,
+    cap: &[u32],
+    table: &[u32],
+    line: usize,
+    shares: &mut [u32],
+    remainders: &mut [u32],
+) -> u32
     requires { ⌜ Line n (now cap) (now table) line ⌝ }
     requires { ⌜ (n ≤ length (now shares)) × (n ≤ length (now remainders)) ⌝ }
     requires { ⌜ getD (now cap) line 0 < lineSum n (now table) line ⌝ }

@@ -1,14 +1,12 @@
-use Rattle.least.proofs.Cutting.{Cutting, cutting-none, cutting-more, cutting-below, cutting-all, demands-below}
-use borrow.Author.Needs.{needs}
-use lib.ListN.{length}
-use mathlib.Core.Path.{_≡_, refl, _∙_}
-use native.Mathlib.Omega.{arith}
+-- `share_lines` meets its contract. The loop's invariant: the lines passed are cut, `Cutting`. Assumes nothing.
 use Prim.Native.Nat.{_≤_, _-_, _*_}
+use native.Mathlib.Omega.{arith}
+use mathlib.Core.Path.{_≡_, refl, _∙_}
+use lib.ListN.{length}
+use borrow.Author.Needs.{needs}
+use Rattle.least.proofs.Cutting.{Cutting, cutting-none, cutting-more, cutting-below, cutting-all, demands-below}
 use Rattle.least.proofs.kept.share_lines.Statement.{statement}
 use Rattle.least.proofs.kept.share_lines.Tie as tie
-use Rattle.least.proofs.kept.share_lines.Reads as reads
-use Rattle.least.proofs.kept.share_lines.Lts as lts
-use Rattle.least.proofs.kept.share_line.Reads as share-line-reads
 
 abbrev Inv-loop : tie.InvT-loop
 Inv-loop n cap table₀ lines line₀ table line = (line ≤ 2 * n) × (lines ≡ 2 * n) × (length table ≡ length table₀) × (Cutting n cap table₀ line table)
@@ -16,42 +14,40 @@ Inv-loop n cap table₀ lines line₀ table line = (line ≤ 2 * n) × (lines �
 abbrev μ-loop : tie.MeasureT-loop
 μ-loop n cap table₀ lines line₀ table line = 2 * n - line
 
--- src/kept.rt:137:17
 mul-lines : tie.Need-mul-lines Inv-loop μ-loop
 mul-lines c = omega (arith, c .before .before .pre)
 
--- src/kept.rt:139:5
 loop-holds : tie.Need-loop-holds Inv-loop μ-loop
 loop-holds c = (omega arith, refl, refl, cutting-none)
 
--- src/kept.rt:140:9
 share-line-requires : tie.Need-share-line-requires Inv-loop μ-loop
-share-line-requires c κs = record {
-      square = record { nodes = c .before .before .before .before .before .pre .nodes; cells = omega (arith, c .before .before .before .before .before .pre .exact, c .before .before .loop .inv .2) };
-      demands = demands-below _ _ _ (cutting-below (c .before .before .loop .inv .3)) (c .before .before .before .before .before .pre .demands);
-      capacities = c .before .before .before .before .before .pre .capacities;
+share-line-requires c κs = let pre = c .before .before .before .before .before .pre in
+    let loop = c .before .before .loop in
+    record {
+      square = record { nodes = pre .nodes; cells = omega (arith, pre .exact, loop .inv .2) };
+      demands = demands-below _ _ _ (cutting-below (loop .inv .3)) (pre .demands);
+      capacities = pre .capacities;
       line = omega arith;
     }
 
--- src/kept.rt:141:9
 add-line : tie.Need-add-line Inv-loop μ-loop
 add-line c = omega arith
 
--- src/kept.rt:139:5
 loop-less : tie.Need-loop-less Inv-loop μ-loop
 loop-less c = omega arith
 
--- src/kept.rt:139:5
 loop-again : tie.Need-loop-again Inv-loop μ-loop
-loop-again c = (omega arith, refl, c .before .before .share-line .kept .1 .1 .0 ∙ c .before .before .before .before .before .loop .inv .2, cutting-more (c .before .before .before .before .before .loop .inv .3) (c .before .before .before .before .before .before .before .before .pre .apart) (omega arith) _ (c .before .before .share-line .ensures))
+loop-again c = let loop = c .before .before .before .before .before .loop in
+    let share-line = c .before .before .share-line in
+    (omega arith, refl, share-line .kept .1 .1 .0 ∙ loop .inv .2, cutting-more (loop .inv .3) (c .before .before .before .before .before .before .before .before .pre .apart) (omega arith) _ (share-line .ensures))
 
--- src/kept.rt:133:1
 same-length : tie.Need-same-length Inv-loop μ-loop
 same-length c = search needs
 
--- src/kept.rt:133:1
 returns : tie.Need-returns Inv-loop μ-loop
-returns c = cutting-all _ _ (omega arith) (c .before .before .before .before .pre .apart) (c .before .loop .inv .2 ∙ c .before .before .before .before .pre .exact) (c .before .loop .inv .3)
+returns c = let pre = c .before .before .before .before .pre in
+    let loop = c .before .loop in
+    cutting-all _ _ (omega arith) (pre .apart) (loop .inv .2 ∙ pre .exact) (loop .inv .3)
 
 pub share-lines-spec : {M : Type 1} → statement M
 share-lines-spec =
