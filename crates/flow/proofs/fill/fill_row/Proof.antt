@@ -1,0 +1,64 @@
+use Rattle.flow.proofs.fill.fill_row.Statement.{statement}
+use Rattle.flow.proofs.fill.fill_row.Tie as tie
+use Rattle.flow.proofs.fill.fill_row.Reads as reads
+use Rattle.flow.proofs.fill.fill_row.Lts as lts
+use Rattle.flow.proofs.fill.fill_at.Reads as fill-at-reads
+use Rattle.flow.proofs.fill.next.Reads as next-reads
+
+abbrev Inv-loop : tie.InvT-loop
+Inv-loop n bound a₀ room₀ i j₀ t₀ a room j t = ?
+
+abbrev μ-loop : tie.MeasureT-loop
+μ-loop n bound a₀ room₀ i j₀ t₀ a room j t = ?
+
+-- src/fill.rt:64:5
+loop-holds : tie.Need-loop-holds Inv-loop μ-loop
+loop-holds c = ?
+
+-- src/fill.rt:65:9
+fill-at-requires : tie.Need-fill-at-requires Inv-loop μ-loop
+fill-at-requires c κs = ?
+
+-- src/fill.rt:66:9
+next-requires : tie.Need-next-requires Inv-loop μ-loop
+next-requires c κs = ?
+
+-- src/fill.rt:67:9
+add-t : tie.Need-add-t Inv-loop μ-loop
+add-t c = ?
+
+-- src/fill.rt:64:5
+loop-less : tie.Need-loop-less Inv-loop μ-loop
+loop-less c = ?
+
+-- src/fill.rt:64:5
+loop-again : tie.Need-loop-again Inv-loop μ-loop
+loop-again c = ?
+
+-- src/fill.rt:57:1
+same-length : tie.Need-same-length Inv-loop μ-loop
+same-length c = ?
+
+-- src/fill.rt:57:1
+same-length-2 : tie.Need-same-length-2 Inv-loop μ-loop
+same-length-2 c = ?
+
+-- src/fill.rt:57:1
+returns : tie.Need-returns Inv-loop μ-loop
+returns c = ?
+
+pub fill-row-spec : {M : Type 1} → statement M
+fill-row-spec =
+    tie.close
+    (tie.spec
+    Inv-loop
+    μ-loop
+    loop-holds
+    fill-at-requires
+    next-requires
+    add-t
+    loop-less
+    loop-again
+    same-length
+    same-length-2
+    returns)
