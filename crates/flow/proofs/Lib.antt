@@ -3,3 +3,5 @@ pub mod Duality
 pub mod Check
 pub mod Stores
 pub mod Moves
+pub mod Takes
+pub mod Ends

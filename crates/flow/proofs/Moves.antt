@@ -11,12 +11,13 @@ use borrow.Author.Tests.{lt-ltb, le-ltb}
 use borrow.Author.Count.{below-more}
 use Rattle.sums.specs.Tables.{cell}
 use Rattle.sums.proofs.Cases.{by-eq, by-lt}
+use Rattle.star.specs.Tables.{Demands}
 use Rattle.star.specs.Lines.{sourceOn, destinationOn, onLine, lineSum, crossing}
-use Rattle.star.proofs.LineLaws.{source-lt, destination-lt, on-row, on-column}
+use Rattle.star.proofs.LineLaws.{source-lt, destination-lt, on-row, on-column, on-line-most}
 use Rattle.levels.specs.Levels.{Below, movable, Served, Layered}
 use Rattle.levels.proofs.Crossings.{cross-lt, cross-other, cross-row, cross-column, movable-row, movable-column}
 use Rattle.levels.proofs.Growing.{at-set}
-use Rattle.flow.specs.Draws.{span, passed, Moved, Drawn, Drawable, CanDraw}
+use Rattle.flow.specs.Draws.{span, passed, Roomy, Moved, Drawn, CanPass, CanDraw}
 use Rattle.flow.proofs.Stores.{apart-line, apart-sum, both-sums, store-below}
 
 pub passed-row : (n : ℕ) (a : List ℕ) (ℓ t x : ℕ) → ℓ < n → passed n a ℓ t x ≡ onLine n a ℓ t - x
@@ -26,6 +27,15 @@ passed-row n a ℓ t x h = simp (lt-ltb ℓ n h)
 pub passed-column : (n : ℕ) (a : List ℕ) (ℓ t x : ℕ) → n ≤ ℓ → passed n a ℓ t x ≡ onLine n a ℓ t + x
 unfolding passed
 passed-column n a ℓ t x h = simp (le-ltb ℓ n h)
+
+-- the store that passes x into a row, and into a column
+pub pass-row : (n : ℕ) (a : List ℕ) (ℓ t x : ℕ) → ℓ < n → set a (ℓ * n + t) (cell n a ℓ t - x) ≡ set a (sourceOn n ℓ t * n + destinationOn n ℓ t) (passed n a ℓ t x)
+unfolding passed onLine sourceOn destinationOn
+pass-row n a ℓ t x h = simp (lt-ltb ℓ n h)
+
+pub pass-column : (n : ℕ) (a : List ℕ) (ℓ t x : ℕ) → n ≤ ℓ → set a (t * n + (ℓ - n)) (cell n a t (ℓ - n) + x) ≡ set a (sourceOn n ℓ t * n + destinationOn n ℓ t) (passed n a ℓ t x)
+unfolding passed onLine sourceOn destinationOn
+pass-column n a ℓ t x h = simp (le-ltb ℓ n h)
 
 -- what can move, in the terms of a line
 pub movable-in-row : (n : ℕ) (bound a : List ℕ) (ℓ t : ℕ) → ℓ < n → movable n bound a ℓ t ≡ onLine n a ℓ t
@@ -48,11 +58,11 @@ moved-none n bound a room marks ℓ level b = record {
 }
 
 -- ---- from a row's own room
-module _ (n : ℕ) (bound a room marks : List ℕ) (ℓ want x : ℕ) (can : CanDraw n bound a room marks ℓ 1 want) (e : x ≡ min (getD room ℓ 0) want) where
+module _ (n : ℕ) (bound a room marks : List ℕ) (ℓ level want x : ℕ) (can : CanDraw n bound a room marks ℓ level want) (one : level ≡ 1) (e : x ≡ min (getD room ℓ 0) want) where
   row-is : ℓ < n
-  row-is = can .rows ℓ (can .line) (can .own)
+  row-is = can .rows ℓ (can .line) (can .own ∙ one)
 
-  own-moved : Moved n bound a room marks a (set room ℓ (getD room ℓ 0 - x)) marks ℓ 1 x
+  own-moved : Moved n bound a room marks a (set room ℓ (getD room ℓ 0 - x)) marks ℓ level x
   unfolding span
   own-moved =
       let fits : ℓ < length room = omega (arith, can .roomy .rooms, can .line) in
@@ -67,11 +77,11 @@ module _ (n : ℕ) (bound a room marks : List ℕ) (ℓ want x : ℕ) (can : Can
         rows = λ c q s. s;
       }
 
-  pub own-drawn : Drawn n bound a room marks a (set room ℓ (getD room ℓ 0 - x)) marks ℓ 1 want x
+  pub own-drawn : Drawn n bound a room marks a (set room ℓ (getD room ℓ 0 - x)) marks ℓ level want x
   own-drawn = record {
     moved = own-moved;
     most = omega arith;
-    first = λ l. omega (arith, l .rooms ℓ (can .line) (can .own), can .some);
+    first = λ l. omega (arith, l .rooms ℓ (can .line) (can .own ∙ one), can .some);
   }
 
 -- ---- through one pair
@@ -155,6 +165,30 @@ drawing-start n bound a room marks ℓ level want can = record {
 }
 
 module _ {n : ℕ} {bound a₀ room₀ marks₀ a room marks : List ℕ} {ℓ level want got t : ℕ} (G : Drawing n bound a₀ room₀ marks₀ a room marks ℓ level want got t) where
+  -- the tables are still what a draw asks
+  module _ (can : CanDraw n bound a₀ room₀ marks₀ ℓ level want) (la : length a ≡ length a₀) (lr : length room ≡ length room₀) where
+    pub roomy-now : Roomy n bound a room
+    roomy-now = record {
+      below = record {
+        bounds = can .roomy .below .bounds;
+        cells = record { nodes = can .roomy .below .cells .nodes; cells = omega (arith, can .roomy .below .cells .cells) };
+        below = G .moved .below;
+      };
+      demands = can .roomy .demands;
+      rooms = omega (arith, can .roomy .rooms);
+    }
+
+    pub can-lower : {part low : ℕ} → length marks ≡ length marks₀ → t < n → 0 < part → 1 < level → getD marks (crossing n ℓ t) 0 + 1 ≡ level → low + 1 ≡ level → CanDraw n bound a room marks (crossing n ℓ t) low part
+    can-lower lm ht some up below lower = record {
+      roomy = roomy-now;
+      lines = omega (arith, can .lines);
+      rows = λ c q e. can .rows c q (G .moved .rows c q e);
+      line = cross-lt n ℓ (can .line) t ht;
+      own = omega arith;
+      reached = omega arith;
+      some = some;
+    }
+
   pub drawing-skip : (getD marks (crossing n ℓ t) 0 + 1 ≡ level → movable n bound a ℓ t ≡ 0) → Drawing n bound a₀ room₀ marks₀ a room marks ℓ level want got (t + 1)
   drawing-skip here = record {
     moved = G .moved;
@@ -171,6 +205,17 @@ module _ {n : ℕ} {bound a₀ room₀ marks₀ a room marks : List ℕ} {ℓ le
   }
 
   module _ {a₁ room₁ marks₁ : List ℕ} {low part x : ℕ} (D : Drawn n bound a room marks a₁ room₁ marks₁ (crossing n ℓ t) low part x) (hl : ℓ < 2 * n) (ht : t < n) (below : getD marks (crossing n ℓ t) 0 + 1 ≡ level) (lower : low + 1 ≡ level) (can : part ≤ movable n bound a ℓ t) (fits : n * n ≤ length a₁) where
+    -- what came can be passed on
+    pub can-pass : Demands n bound → CanPass n a₁ ℓ t x
+    can-pass d =
+        let c : x ≤ movable n bound a ℓ t = omega (arith, D .most) in
+        record {
+          line = hl;
+          pair = ht;
+          row = row-can (G .moved) (D .moved) hl ht (G .own) below lower c fits;
+          column = λ h. omega (arith, column-can (G .moved) (D .moved) hl ht (G .own) below lower c fits h, on-line-most n bound ℓ t d hl ht);
+        }
+
     pub drawn-moved : Moved n bound a₀ room₀ marks₀ (set a₁ (sourceOn n ℓ t * n + destinationOn n ℓ t) (passed n a₁ ℓ t x)) room₁ marks₁ ℓ level (got + x)
     drawn-moved = moved-step (G .moved) (D .moved) hl ht (G .own) below lower (omega (arith, D .most)) fits
 

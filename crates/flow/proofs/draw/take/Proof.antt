@@ -1,3 +1,8 @@
+use Rattle.flow.proofs.Takes.{took-none, took-drawn}
+use Prim.Native.Nat.{ℕ, _≤_, _<_, _-_, _+_}
+use lib.ListN.{getD}
+use native.Mathlib.Omega.{arith}
+use mathlib.Core.Path.{_≡_, refl, sym, _∙_, ap}
 use borrow.Author.Needs.{needs}
 use Rattle.flow.proofs.draw.take.Statement.{statement}
 use Rattle.flow.proofs.draw.take.Tie as tie
@@ -15,7 +20,7 @@ slice-read-level c = search needs
 
 -- src/draw.rt:90:9
 returns : tie.Need-returns
-returns c = ?
+returns c = took-none _ _ _ _ _ _ _ (c .before .before .before .before .before .before .pre .0 .below) (λ k lo hi pos. absurd (omega (arith, c .if1 .taken, pos, ap (λ x. getD (c .before .before .before .before .before .before .args .marks .now) (c .before .before .before .before .before .before .args .n + x) 0) (let e : k ≡ c .before .before .before .before .before .before .args .j = omega arith in e))))
 
 -- src/draw.rt:92:16
 mul-want : tie.Need-mul-want
@@ -27,7 +32,7 @@ slice-read-want c = search needs
 
 -- src/draw.rt:94:9
 returns-2 : tie.Need-returns-2
-returns-2 c = ?
+returns-2 c = took-none _ _ _ _ _ _ _ (c .before .before .before .before .before .before .before .before .pre .0 .below) (λ k lo hi pos. let e : k ≡ c .before .before .before .before .before .before .before .before .args .j = omega arith in rw e (c .if2 .taken))
 
 -- src/draw.rt:96:9
 draw-requires : tie.Need-draw-requires
@@ -59,7 +64,7 @@ same-length-3 c = search needs
 
 -- src/draw.rt:82:1
 returns-3 : tie.Need-returns-3
-returns-3 c = ?
+returns-3 c = took-drawn _ _ _ _ _ _ _ _ _ _ _ (c .before .before .before .before .before .before .before .before .before .before .before .before .before .before .before .before .before .before .pre .1 .2) (omega (arith, c .before .before .before .before .before .before .draw .kept .1 .1 .1 .0, c .before .before .before .before .before .before .before .before .before .before .before .before .before .before .before .before .before .before .pre .0 .rooms, c .before .before .before .before .before .before .before .before .before .before .before .before .before .before .before .before .before .before .pre .1 .2)) (c .before .before .before .before .before .before .draw .ensures)
 
 pub take-spec : {M : Type 1} → statement M
 take-spec =

@@ -1,3 +1,10 @@
+use Prim.Native.Nat.{_+_, _-_}
+use lib.ListN.{getD}
+use Rattle.flow.proofs.Takes.{kept-fill}
+use lib.Seq.{getD-set-other}
+use lib.ListN.{length-set}
+use native.Mathlib.Omega.{arith}
+use mathlib.Core.Path.{_≡_, refl, sym, _∙_, ap}
 use borrow.Author.Needs.{needs}
 use Rattle.flow.proofs.fill.fill_at.Statement.{statement}
 use Rattle.flow.proofs.fill.fill_at.Tie as tie
@@ -41,7 +48,7 @@ get-requires-2 c κs = search needs
 
 -- src/fill.rt:50:21
 sub-smaller : tie.Need-sub-smaller
-sub-smaller c = ?
+sub-smaller c = omega (arith, c .before .before .before .before .get .ensures, c .get2 .ensures, c .before .before .before .before .before .before .before .before .before .pre .0 .below .below (c .before .before .before .before .before .before .before .before .before .args .i) (c .before .before .before .before .before .before .before .before .before .args .j) (c .before .before .before .before .before .before .before .before .before .pre .1 .0) (c .before .before .before .before .before .before .before .before .before .pre .1 .1))
 
 -- src/fill.rt:50:9
 smaller-requires-2 : tie.Need-smaller-requires-2
@@ -81,15 +88,15 @@ mul-room-2 c = search needs
 
 -- src/fill.rt:53:5
 slice-read-room-2 : tie.Need-slice-read-room-2
-slice-read-room-2 c = ?
+slice-read-room-2 c = simp length-set (omega (arith, c .before .before .before .before .before .before .before .before .before .before .before .before .before .before .before .before .pre .0 .rooms))
 
 -- src/fill.rt:53:5
 sub-room-2 : tie.Need-sub-room-2
-sub-room-2 c = ?
+sub-room-2 c = rw (getD-set-other (c .before .before .before .before .before .before .before .before .before .before .before .before .before .before .before .before .args .room .now) (c .before .before .before .before .before .before .before .before .before .before .before .before .before .before .before .before .args .i) (c .before .before .before .before .before .before .before .before .before .before .before .before .before .before .before .before .args .n + c .before .before .before .before .before .before .before .before .before .before .before .before .before .before .before .before .args .j) (getD (c .before .before .before .before .before .before .before .before .before .before .before .before .before .before .before .before .args .room .now) (c .before .before .before .before .before .before .before .before .before .before .before .before .before .before .before .before .args .i) 0 - c .before .before .before .before .before .before .smaller2 .result) 0 (λ e. omega (arith, c .before .before .before .before .before .before .before .before .before .before .before .before .before .before .before .before .pre .1 .0))) (omega (arith, c .before .before .before .before .before .before .smaller2 .ensures, c .before .before .before .before .before .before .before .before .smaller .ensures))
 
 -- src/fill.rt:53:5
 slice-write-room-2 : tie.Need-slice-write-room-2
-slice-write-room-2 c = ?
+slice-write-room-2 c = simp length-set (omega (arith, c .before .before .before .before .before .before .before .before .before .before .before .before .before .before .before .before .pre .0 .rooms))
 
 -- src/fill.rt:43:1
 same-length : tie.Need-same-length
@@ -101,7 +108,7 @@ same-length-2 c = search needs
 
 -- src/fill.rt:43:1
 returns : tie.Need-returns
-returns c = ?
+returns c = rw (c .before .before .before .before .put .ensures, c .before .before .before .before .before .before .before .before .before .before .before .get .ensures) (kept-fill _ _ _ _ _ _ _ (c .before .before .before .before .before .before .before .before .before .before .before .before .before .before .before .before .pre .0) (c .before .before .before .before .before .before .before .before .before .before .before .before .before .before .before .before .pre .1 .0) (c .before .before .before .before .before .before .before .before .before .before .before .before .before .before .before .before .pre .1 .1) (omega (arith, c .before .before .before .before .before .before .smaller2 .ensures, c .before .before .before .before .before .before .before .before .before .before .before .get .ensures, c .before .before .before .before .before .before .before .get2 .ensures, c .before .before .before .before .before .before .before .before .before .before .before .before .before .before .before .before .pre .0 .below .below (c .before .before .before .before .before .before .before .before .before .before .before .before .before .before .before .before .args .i) (c .before .before .before .before .before .before .before .before .before .before .before .before .before .before .before .before .args .j) (c .before .before .before .before .before .before .before .before .before .before .before .before .before .before .before .before .pre .1 .0) (c .before .before .before .before .before .before .before .before .before .before .before .before .before .before .before .before .pre .1 .1))) (omega (arith, c .before .before .before .before .before .before .smaller2 .ensures, c .before .before .before .before .before .before .before .before .smaller .ensures)) (omega (arith, c .before .before .before .before .before .before .smaller2 .ensures, c .before .before .before .before .before .before .before .before .smaller .ensures)))
 
 pub fill-at-spec : {M : Type 1} → statement M
 fill-at-spec =
