@@ -3,10 +3,11 @@ use Prim.Native.Nat.{ℕ, _+_, _*_, _≤_, _<_}
 use mathlib.Core.Path.{_≡_}
 use mathlib.Core.Bool.{true, false}
 use mathlib.Core.List.{List}
-use lib.ListN.{length, getD}
-use Rattle.sums.specs.Tables.{cell}
+use lib.ListN.{length, getD, drop}
+use Rattle.sums.specs.Tables.{cell, tab}
 use Rattle.star.specs.Tables.{Square, Demands, Capacities}
-use Rattle.star.specs.Lines.{onLine}
+use Rattle.star.specs.Lines.{onLine, excess}
+use Rattle.flow.specs.Flows.{Closed}
 use Rattle.least.specs.Least.{Greatest, longer, share, remainder, missing, shared, MeetInZero}
 
 -- ---- a line of a table
@@ -15,7 +16,7 @@ pub record Rewritten (n ℓ : ℕ) (f : ℕ → ℕ) (k k' : List ℕ) : Type 0 
   pub on : (t : ℕ) → t < n → onLine n k' ℓ t ≡ f t
   pub off : (i j : ℕ) → i < n → j < n → (i ≡ ℓ → ⊥) → (n + j ≡ ℓ → ⊥) → cell n k' i j ≡ cell n k i j
 
--- a table of exactly n * n demands, and a line of it
+-- a table of demands, the capacities, and a line
 pub record Line (n : ℕ) (cap e : List ℕ) (ℓ : ℕ) : Type 0 where
   pub square : Square n e
   pub demands : Demands n e
@@ -42,6 +43,21 @@ pub record CanShare (n : ℕ) (cap e : List ℕ) : Type 0 where
   pub apart : MeetInZero n cap e
 
 -- ---- the whole rule
+-- D in its table, a table for A, and one with a place for the mark of each line
+pub record CanWithdraw (n : ℕ) (cap d a marks : List ℕ) : Type 0 where
+  pub demand : Square n d
+  pub demands : Demands n d
+  pub capacities : Capacities n cap
+  pub withdrawn : Square n a
+  pub lines : 2 * n ≤ length marks
+
+-- a greatest withdrawn matrix, the marks that prove it the greatest, and the further cells of both tables as before
+pub record Withdrew (n : ℕ) (cap d a marks a' marks' : List ℕ) : Type 0 where
+  pub greatest : Greatest n cap d a'
+  pub closed : Closed n d (tab (2 * n) (excess n cap d)) a' marks'
+  pub rest : drop (n * n) a' ≡ drop (n * n) a
+  pub rest-marks : drop (2 * n) marks' ≡ drop (2 * n) marks
+
 -- D and A in their tables, and a table for what is kept
 pub record CanKeep (n : ℕ) (cap d a k : List ℕ) : Type 0 where
   pub demand : Square n d

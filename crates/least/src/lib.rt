@@ -1,2 +1,3 @@
-// The least rule: what is kept of a demand, given a greatest withdrawn matrix.
+// The least rule: a greatest withdrawn matrix, and what is kept of a demand given it.
 pub mod kept;
+pub mod withdrawn;
