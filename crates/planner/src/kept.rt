@@ -8,7 +8,14 @@ ghost use Rattle.star.specs.Lines.{total};
 ghost use Rattle.planner.specs.Kept.{KeepRoom, Kept};
 
 // Writes kept and withdrawn by the rule: 0 is the fair one, under which nothing is withdrawn, any other the least one.
-pub fn keep(n: usize, rule: u32, cap: &[u32], demand: &[u32], kept: &mut [u32], withdrawn: &mut [u32])
+pub fn keep(
+    n: usize,
+    rule: u32,
+    cap: &[u32],
+    demand: &[u32],
+    kept: &mut [u32],
+    withdrawn: &mut [u32],
+)
     requires { ⌜ KeepRoom n (now cap) (now demand) (now kept) (now withdrawn) ⌝ }
     ensures { λ _. ⌜ Kept n rule (now (cap .entry)) (now (demand .entry)) (now (kept .entry)) (now (withdrawn .entry)) (now (kept .exit)) (now (withdrawn .exit)) ⌝ }
 {

@@ -1,3 +1,5 @@
+use Rattle.planner.proofs.KeptLaws.{kept-fairly, kept-least}
+use mathlib.Core.Path.{_∙_}
 use borrow.Author.Needs.{needs}
 use Rattle.planner.proofs.kept.keep.Statement.{statement}
 use Rattle.planner.proofs.kept.keep.Tie as tie
@@ -26,7 +28,7 @@ same-length-2 c = search needs
 
 -- src/kept.rt:18:9
 returns : tie.Need-returns
-returns c = ?
+returns c = kept-fairly _ _ _ _ _ _ _ _ (c .before .before .before .before .before .before .before .before .if1 .taken) (c .before .before .before .before .before .before .cut .ensures) (c .before .before .clear .ensures)
 
 -- src/kept.rt:21:59
 slice-aggregate-withdraw : tie.Need-slice-aggregate-withdraw
@@ -50,7 +52,7 @@ same-length-4 c = search needs
 
 -- src/kept.rt:11:1
 returns-2 : tie.Need-returns-2
-returns-2 c = ?
+returns-2 c = kept-least _ _ _ _ _ _ _ _ (c .before .before .before .before .before .before .before .before .before .before .before .if1 .left) (c .before .before .before .before .before .before .before .before .withdraw .ensures .greatest) (c .before .before .before .before .before .before .before .before .withdraw .ensures .rest) (c .before .before .keep .ensures)
 
 pub keep-spec : {M : Type 1} → statement M
 keep-spec =

@@ -1,0 +1,2 @@
+-- The laws that the proofs of the planner's entries cite.
+pub mod KeptLaws
