@@ -2,7 +2,7 @@
 // move from it. What can move away from a line is what can move into the line that crosses it there.
 use crate::pairs::{can_move, cross, seat_of};
 ghost use mathlib.Core.Path.{_≡_};
-ghost use Prim.Native.Nat.{ℕ, _+_, _*_, _<_, _≤_};
+ghost use Prim.Native.Nat.{_+_, _*_, _<_, _≤_};
 ghost use lib.ListN.{length, getD};
 ghost use Rattle.levels.specs.Levels.{Below, Searched};
 ghost use Rattle.levels.specs.Searches.{Start, Started, Spread, Swept};
