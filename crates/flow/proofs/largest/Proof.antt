@@ -26,10 +26,16 @@ slice-relend-prefix-largest-on-2 : tie.Need-slice-relend-prefix-largest-on-2
 slice-relend-prefix-largest-on-2 c = search needs
 
 slice-aggregate-largest-on-3 : tie.Need-slice-aggregate-largest-on-3
-slice-aggregate-largest-on-3 c = sym (length-take-le _ (c .before .before .before .before .before .before .before .args .marks .now) (c .before .before .before .before .before .before .before .pre .lines))
+slice-aggregate-largest-on-3 c =
+    let args = c .before .before .before .before .before .before .before .args in
+    let asked = c .before .before .before .before .before .before .before .pre in
+    sym (length-take-le _ (args .marks .now) (asked .lines))
 
 largest-on-requires : tie.Need-largest-on-requires
-largest-on-requires c κs = (record { bounds = c .before .before .before .before .before .before .before .pre .bounds; demands = c .before .before .before .before .before .before .before .pre .demands; cells = record { nodes = c .before .before .before .before .before .before .before .pre .cells .nodes; cells = le-of-eq (sym (length-take-le _ (c .before .before .before .before .before .before .before .args .a .now) (c .before .before .before .before .before .before .before .pre .cells .cells))) }; limits = c .before .before .before .before .before .before .before .pre .limits; lines = le-of-eq (sym (length-take-le _ (c .before .before .before .before .before .before .before .args .marks .now) (c .before .before .before .before .before .before .before .pre .lines))) }, omega (arith, c .before .before .before .before .before .before .before .pre .cells .nodes))
+largest-on-requires c κs =
+    let asked = c .before .before .before .before .before .before .before .pre in
+    let args = c .before .before .before .before .before .before .before .args in
+    (record { bounds = asked .bounds; demands = asked .demands; cells = record { nodes = asked .cells .nodes; cells = le-of-eq (sym (length-take-le _ (args .a .now) (asked .cells .cells))) }; limits = asked .limits; lines = le-of-eq (sym (length-take-le _ (args .marks .now) (asked .lines))) }, omega (arith, asked .cells .nodes))
 
 same-length : tie.Need-same-length
 same-length c = search needs
@@ -38,13 +44,17 @@ same-length-2 : tie.Need-same-length-2
 same-length-2 c = search needs
 
 returns : tie.Need-returns
-returns c = let cells = c .before .before .before .before .before .largest-on .kept .1 .1 .1 .0 ∙ length-take-le _ (c .before .before .before .before .before .before .before .before .before .before .before .before .before .args .a .now) (c .before .before .before .before .before .before .before .before .before .before .before .before .before .pre .cells .cells) in
-    let lines = c .before .before .before .before .before .largest-on .kept .1 .1 .1 .1 .1 .0 ∙ length-take-le _ (c .before .before .before .before .before .before .before .before .before .before .before .before .before .args .marks .now) (c .before .before .before .before .before .before .before .before .before .before .before .before .before .pre .lines) in
+returns c =
+    let largest-on-said = c .before .before .before .before .before .largest-on in
+    let args = c .before .before .before .before .before .before .before .before .before .before .before .before .before .args in
+    let asked = c .before .before .before .before .before .before .before .before .before .before .before .before .before .pre in
+    let cells = largest-on-said .kept .1 .1 .1 .0 ∙ length-take-le _ (args .a .now) (asked .cells .cells) in
+    let lines = largest-on-said .kept .1 .1 .1 .1 .1 .0 ∙ length-take-le _ (args .marks .now) (asked .lines) in
     record {
-      feasible = feasible-front _ _ _ (c .before .before .before .before .before .largest-on .last .1 .1 .1 .0) _ cells (c .before .before .before .before .before .largest-on .ensures .0);
-      closed = closed-front _ _ _ (c .before .before .before .before .before .largest-on .last .1 .1 .1 .0) _ cells (c .before .before .before .before .before .largest-on .last .1 .1 .1 .1 .1 .0) _ lines (c .before .before .before .before .before .largest-on .ensures .1);
-      rest = drop-at (c .before .before .before .before .before .largest-on .last .1 .1 .1 .0) _ _ cells;
-      rest-marks = drop-at (c .before .before .before .before .before .largest-on .last .1 .1 .1 .1 .1 .0) _ _ lines;
+      feasible = feasible-front _ _ _ (largest-on-said .last .1 .1 .1 .0) _ cells (largest-on-said .ensures .0);
+      closed = closed-front _ _ _ (largest-on-said .last .1 .1 .1 .0) _ cells (largest-on-said .last .1 .1 .1 .1 .1 .0) _ lines (largest-on-said .ensures .1);
+      rest = drop-at (largest-on-said .last .1 .1 .1 .0) _ _ cells;
+      rest-marks = drop-at (largest-on-said .last .1 .1 .1 .1 .1 .0) _ _ lines;
     }
 
 pub largest-spec : {M : Type 1} → statement M

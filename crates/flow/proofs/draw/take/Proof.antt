@@ -14,7 +14,10 @@ slice-read-level : tie.Need-slice-read-level
 slice-read-level c = search needs
 
 returns : tie.Need-returns
-returns c = took-none _ _ _ _ _ _ _ (c .before .before .before .before .before .before .pre .0 .below) (λ k lo hi pos. absurd (omega (arith, c .if1 .taken, pos, ap (λ x. getD (c .before .before .before .before .before .before .args .marks .now) (c .before .before .before .before .before .before .args .n + x) 0) (let e : k ≡ c .before .before .before .before .before .before .args .j = omega arith in e))))
+returns c =
+    let asked = c .before .before .before .before .before .before .pre in
+    let args = c .before .before .before .before .before .before .args in
+    took-none _ _ _ _ _ _ _ (asked .0 .below) (λ k lo hi pos. absurd (omega (arith, c .if1 .taken, pos, ap (λ x. getD (args .marks .now) (args .n + x) 0) (let e : k ≡ args .j = omega arith in e))))
 
 mul-want : tie.Need-mul-want
 mul-want c = search needs
@@ -23,7 +26,10 @@ slice-read-want : tie.Need-slice-read-want
 slice-read-want c = search needs
 
 returns-2 : tie.Need-returns-2
-returns-2 c = took-none _ _ _ _ _ _ _ (c .before .before .before .before .before .before .before .before .pre .0 .below) (λ k lo hi pos. let e : k ≡ c .before .before .before .before .before .before .before .before .args .j = omega arith in rw e (c .if2 .taken))
+returns-2 c =
+    let asked = c .before .before .before .before .before .before .before .before .pre in
+    let args = c .before .before .before .before .before .before .before .before .args in
+    took-none _ _ _ _ _ _ _ (asked .0 .below) (λ k lo hi pos. let e : k ≡ args .j = omega arith in rw e (c .if2 .taken))
 
 draw-requires : tie.Need-draw-requires
 draw-requires c κs = search needs
@@ -47,7 +53,10 @@ same-length-3 : tie.Need-same-length-3
 same-length-3 c = search needs
 
 returns-3 : tie.Need-returns-3
-returns-3 c = took-drawn _ _ _ _ _ _ _ _ _ _ _ (c .before .before .before .before .before .before .before .before .before .before .before .before .before .before .before .before .before .before .pre .1 .2) (omega (arith, c .before .before .before .before .before .before .draw .kept .1 .1 .1 .0, c .before .before .before .before .before .before .before .before .before .before .before .before .before .before .before .before .before .before .pre .0 .rooms, c .before .before .before .before .before .before .before .before .before .before .before .before .before .before .before .before .before .before .pre .1 .2)) (c .before .before .before .before .before .before .draw .ensures)
+returns-3 c =
+    let asked = c .before .before .before .before .before .before .before .before .before .before .before .before .before .before .before .before .before .before .pre in
+    let draw-said = c .before .before .before .before .before .before .draw in
+    took-drawn _ _ _ _ _ _ _ _ _ _ _ (asked .1 .2) (omega (arith, draw-said .kept .1 .1 .1 .0, asked .0 .rooms, asked .1 .2)) (draw-said .ensures)
 
 pub take-spec : {M : Type 1} → statement M
 take-spec =

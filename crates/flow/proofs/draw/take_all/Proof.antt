@@ -17,7 +17,10 @@ loop-holds : tie.Need-loop-holds Inv-loop μ-loop
 loop-holds c = (omega arith, refl, refl, refl, took-none _ _ _ _ _ _ _ (c .before .before .before .before .pre .0 .below) (λ k lo hi pos. absurd (omega arith)))
 
 take-requires : tie.Need-take-requires Inv-loop μ-loop
-take-requires c κs = (roomy-kept (c .before .before .before .before .before .before .before .before .before .pre .0) (c .before .before .before .before .loop .inv .4 .kept) (c .before .before .before .before .loop .inv .1) (c .before .before .before .before .loop .inv .2), (omega (arith, c .before .before .before .before .loop .inv .3, c .before .before .before .before .before .before .before .before .before .pre .1 .0), (λ k q e. c .before .before .before .before .before .before .before .before .before .pre .1 .1 k q (c .before .before .before .before .loop .inv .4 .rows k q e)), omega arith))
+take-requires c κs =
+    let asked = c .before .before .before .before .before .before .before .before .before .pre in
+    let turn = c .before .before .before .before .loop in
+    (roomy-kept (asked .0) (turn .inv .4 .kept) (turn .inv .1) (turn .inv .2), (omega (arith, turn .inv .3, asked .1 .0), (λ k q e. asked .1 .1 k q (turn .inv .4 .rows k q e)), omega arith))
 
 larger-requires : tie.Need-larger-requires Inv-loop μ-loop
 larger-requires c κs = tt
@@ -29,7 +32,10 @@ loop-less : tie.Need-loop-less Inv-loop μ-loop
 loop-less c = omega arith
 
 loop-again : tie.Need-loop-again Inv-loop μ-loop
-loop-again c = (omega arith, c .before .before .before .before .before .before .before .take .kept .1 .1 .0 ∙ c .before .before .before .before .before .before .before .before .before .before .before .before .loop .inv .1, c .before .before .before .before .before .before .before .take .kept .1 .1 .1 .0 ∙ c .before .before .before .before .before .before .before .before .before .before .before .before .loop .inv .2, c .before .before .before .before .before .before .before .take .kept .1 .1 .1 .1 .0 ∙ c .before .before .before .before .before .before .before .before .before .before .before .before .loop .inv .3, rw (c .larger .ensures) (took-join (c .before .before .before .before .before .before .before .before .before .before .before .before .loop .inv .4) (c .before .before .before .before .before .before .before .take .ensures)))
+loop-again c =
+    let take-said = c .before .before .before .before .before .before .before .take in
+    let turn = c .before .before .before .before .before .before .before .before .before .before .before .before .loop in
+    (omega arith, take-said .kept .1 .1 .0 ∙ turn .inv .1, take-said .kept .1 .1 .1 .0 ∙ turn .inv .2, take-said .kept .1 .1 .1 .1 .0 ∙ turn .inv .3, rw (c .larger .ensures) (took-join (turn .inv .4) (take-said .ensures)))
 
 same-length : tie.Need-same-length Inv-loop μ-loop
 same-length c = c .before .loop .inv .1

@@ -29,7 +29,9 @@ loop-less : tie.Need-loop-less Inv-loop μ-loop
 loop-less c = omega arith
 
 loop-again : tie.Need-loop-again Inv-loop μ-loop
-loop-again c = (omega arith, simp length-set (c .before .loop .inv .1), λ p q. ⊎-elim (λ w. w .1) (λ w. w .1 ∙ c .before .loop .inv .2 p (omega (arith, w .0))) (at-set (c .before .loop .table) (c .before .loop .k) 0 p (omega arith)))
+loop-again c =
+    let turn = c .before .loop in
+    (omega arith, simp length-set (turn .inv .1), λ p q. ⊎-elim (λ w. w .1) (λ w. w .1 ∙ turn .inv .2 p (omega (arith, w .0))) (at-set (turn .table) (turn .k) 0 p (omega arith)))
 
 same-length : tie.Need-same-length Inv-loop μ-loop
 same-length c = c .before .loop .inv .1

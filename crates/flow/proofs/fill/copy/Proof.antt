@@ -35,7 +35,10 @@ loop-less : tie.Need-loop-less Inv-loop μ-loop
 loop-less c = omega arith
 
 loop-again : tie.Need-loop-again Inv-loop μ-loop
-loop-again c = (omega arith, simp length-set (c .before .before .loop .inv .1), λ p q. ⊎-elim (λ w. w .1 ∙ ap (λ x. getD (c .before .before .before .args .from .now) x 0) (sym (w .0))) (λ w. w .1 ∙ c .before .before .loop .inv .2 p (omega (arith, w .0))) (at-set (c .before .before .loop .to) (c .before .before .loop .k) (getD (c .before .before .before .args .from .now) (c .before .before .loop .k) 0) p (omega arith)))
+loop-again c =
+    let turn = c .before .before .loop in
+    let args = c .before .before .before .args in
+    (omega arith, simp length-set (turn .inv .1), λ p q. ⊎-elim (λ w. w .1 ∙ ap (λ x. getD (args .from .now) x 0) (sym (w .0))) (λ w. w .1 ∙ turn .inv .2 p (omega (arith, w .0))) (at-set (turn .to) (turn .k) (getD (args .from .now) (turn .k) 0) p (omega arith)))
 
 same-length : tie.Need-same-length Inv-loop μ-loop
 same-length c = c .before .loop .inv .1

@@ -17,7 +17,10 @@ loop-holds : tie.Need-loop-holds Inv-loop μ-loop
 loop-holds c = (omega arith, refl, refl, kept-none _ _ _ _ (c .before .before .before .pre .below))
 
 fill-row-requires : tie.Need-fill-row-requires Inv-loop μ-loop
-fill-row-requires c κs = (roomy-kept (c .before .before .before .before .before .before .before .pre) (c .before .before .before .loop .inv .3) (c .before .before .before .loop .inv .1) (c .before .before .before .loop .inv .2), omega arith)
+fill-row-requires c κs =
+    let asked = c .before .before .before .before .before .before .before .pre in
+    let turn = c .before .before .before .loop in
+    (roomy-kept (asked) (turn .inv .3) (turn .inv .1) (turn .inv .2), omega arith)
 
 add-i : tie.Need-add-i Inv-loop μ-loop
 add-i c = omega arith
@@ -26,7 +29,10 @@ loop-less : tie.Need-loop-less Inv-loop μ-loop
 loop-less c = omega arith
 
 loop-again : tie.Need-loop-again Inv-loop μ-loop
-loop-again c = (omega arith, c .before .before .before .before .fill-row .kept .1 .1 .0 ∙ c .before .before .before .before .before .before .before .before .loop .inv .1, c .before .before .before .before .fill-row .kept .1 .1 .1 .0 ∙ c .before .before .before .before .before .before .before .before .loop .inv .2, kept-join (c .before .before .before .before .before .before .before .before .loop .inv .3) (c .before .before .before .before .fill-row .ensures))
+loop-again c =
+    let fill-row-said = c .before .before .before .before .fill-row in
+    let turn = c .before .before .before .before .before .before .before .before .loop in
+    (omega arith, fill-row-said .kept .1 .1 .0 ∙ turn .inv .1, fill-row-said .kept .1 .1 .1 .0 ∙ turn .inv .2, kept-join (turn .inv .3) (fill-row-said .ensures))
 
 same-length : tie.Need-same-length Inv-loop μ-loop
 same-length c = c .before .loop .inv .1

@@ -32,7 +32,10 @@ get-requires-2 : tie.Need-get-requires-2
 get-requires-2 c κs = search needs
 
 sub-smaller : tie.Need-sub-smaller
-sub-smaller c = omega (arith, c .before .before .before .before .get .ensures, c .get2 .ensures, c .before .before .before .before .before .before .before .before .before .pre .0 .below .below (c .before .before .before .before .before .before .before .before .before .args .i) (c .before .before .before .before .before .before .before .before .before .args .j) (c .before .before .before .before .before .before .before .before .before .pre .1 .0) (c .before .before .before .before .before .before .before .before .before .pre .1 .1))
+sub-smaller c =
+    let asked = c .before .before .before .before .before .before .before .before .before .pre in
+    let args = c .before .before .before .before .before .before .before .before .before .args in
+    omega (arith, c .before .before .before .before .get .ensures, c .get2 .ensures, asked .0 .below .below (args .i) (args .j) (asked .1 .0) (asked .1 .1))
 
 smaller-requires-2 : tie.Need-smaller-requires-2
 smaller-requires-2 c κs = search needs
@@ -62,13 +65,22 @@ mul-room-2 : tie.Need-mul-room-2
 mul-room-2 c = search needs
 
 slice-read-room-2 : tie.Need-slice-read-room-2
-slice-read-room-2 c = simp length-set (omega (arith, c .before .before .before .before .before .before .before .before .before .before .before .before .before .before .before .before .pre .0 .rooms))
+slice-read-room-2 c =
+    let asked = c .before .before .before .before .before .before .before .before .before .before .before .before .before .before .before .before .pre in
+    simp length-set (omega (arith, asked .0 .rooms))
 
 sub-room-2 : tie.Need-sub-room-2
-sub-room-2 c = rw (getD-set-other (c .before .before .before .before .before .before .before .before .before .before .before .before .before .before .before .before .args .room .now) (c .before .before .before .before .before .before .before .before .before .before .before .before .before .before .before .before .args .i) (c .before .before .before .before .before .before .before .before .before .before .before .before .before .before .before .before .args .n + c .before .before .before .before .before .before .before .before .before .before .before .before .before .before .before .before .args .j) (getD (c .before .before .before .before .before .before .before .before .before .before .before .before .before .before .before .before .args .room .now) (c .before .before .before .before .before .before .before .before .before .before .before .before .before .before .before .before .args .i) 0 - c .before .before .before .before .before .before .smaller2 .result) 0 (λ e. omega (arith, c .before .before .before .before .before .before .before .before .before .before .before .before .before .before .before .before .pre .1 .0))) (omega (arith, c .before .before .before .before .before .before .smaller2 .ensures, c .before .before .before .before .before .before .before .before .smaller .ensures))
+sub-room-2 c =
+    let args = c .before .before .before .before .before .before .before .before .before .before .before .before .before .before .before .before .args in
+    let smaller2-said = c .before .before .before .before .before .before .smaller2 in
+    let asked = c .before .before .before .before .before .before .before .before .before .before .before .before .before .before .before .before .pre in
+    let smaller-said = c .before .before .before .before .before .before .before .before .smaller in
+    rw (getD-set-other (args .room .now) (args .i) (args .n + args .j) (getD (args .room .now) (args .i) 0 - smaller2-said .result) 0 (λ e. omega (arith, asked .1 .0))) (omega (arith, smaller2-said .ensures, smaller-said .ensures))
 
 slice-write-room-2 : tie.Need-slice-write-room-2
-slice-write-room-2 c = simp length-set (omega (arith, c .before .before .before .before .before .before .before .before .before .before .before .before .before .before .before .before .pre .0 .rooms))
+slice-write-room-2 c =
+    let asked = c .before .before .before .before .before .before .before .before .before .before .before .before .before .before .before .before .pre in
+    simp length-set (omega (arith, asked .0 .rooms))
 
 same-length : tie.Need-same-length
 same-length c = search needs
@@ -77,7 +89,14 @@ same-length-2 : tie.Need-same-length-2
 same-length-2 c = search needs
 
 returns : tie.Need-returns
-returns c = rw (c .before .before .before .before .put .ensures, c .before .before .before .before .before .before .before .before .before .before .before .get .ensures) (kept-fill _ _ _ _ _ _ _ (c .before .before .before .before .before .before .before .before .before .before .before .before .before .before .before .before .pre .0) (c .before .before .before .before .before .before .before .before .before .before .before .before .before .before .before .before .pre .1 .0) (c .before .before .before .before .before .before .before .before .before .before .before .before .before .before .before .before .pre .1 .1) (omega (arith, c .before .before .before .before .before .before .smaller2 .ensures, c .before .before .before .before .before .before .before .before .before .before .before .get .ensures, c .before .before .before .before .before .before .before .get2 .ensures, c .before .before .before .before .before .before .before .before .before .before .before .before .before .before .before .before .pre .0 .below .below (c .before .before .before .before .before .before .before .before .before .before .before .before .before .before .before .before .args .i) (c .before .before .before .before .before .before .before .before .before .before .before .before .before .before .before .before .args .j) (c .before .before .before .before .before .before .before .before .before .before .before .before .before .before .before .before .pre .1 .0) (c .before .before .before .before .before .before .before .before .before .before .before .before .before .before .before .before .pre .1 .1))) (omega (arith, c .before .before .before .before .before .before .smaller2 .ensures, c .before .before .before .before .before .before .before .before .smaller .ensures)) (omega (arith, c .before .before .before .before .before .before .smaller2 .ensures, c .before .before .before .before .before .before .before .before .smaller .ensures)))
+returns c =
+    let get-said = c .before .before .before .before .before .before .before .before .before .before .before .get in
+    let asked = c .before .before .before .before .before .before .before .before .before .before .before .before .before .before .before .before .pre in
+    let smaller2-said = c .before .before .before .before .before .before .smaller2 in
+    let get2-said = c .before .before .before .before .before .before .before .get2 in
+    let args = c .before .before .before .before .before .before .before .before .before .before .before .before .before .before .before .before .args in
+    let smaller-said = c .before .before .before .before .before .before .before .before .smaller in
+    rw (c .before .before .before .before .put .ensures, get-said .ensures) (kept-fill _ _ _ _ _ _ _ (asked .0) (asked .1 .0) (asked .1 .1) (omega (arith, smaller2-said .ensures, get-said .ensures, get2-said .ensures, asked .0 .below .below (args .i) (args .j) (asked .1 .0) (asked .1 .1))) (omega (arith, smaller2-said .ensures, smaller-said .ensures)) (omega (arith, smaller2-said .ensures, smaller-said .ensures)))
 
 pub fill-at-spec : {M : Type 1} → statement M
 fill-at-spec =

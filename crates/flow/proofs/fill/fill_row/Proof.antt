@@ -17,7 +17,10 @@ loop-holds : tie.Need-loop-holds Inv-loop μ-loop
 loop-holds c = (omega arith, omega arith, refl, refl, kept-none _ _ _ _ (c .before .before .before .pre .0 .below))
 
 fill-at-requires : tie.Need-fill-at-requires Inv-loop μ-loop
-fill-at-requires c κs = (roomy-kept (c .before .before .before .before .before .before .before .pre .0) (c .before .before .before .loop .inv .4) (c .before .before .before .loop .inv .2) (c .before .before .before .loop .inv .3), (c .before .before .before .before .before .before .before .pre .1, c .before .before .before .loop .inv .1))
+fill-at-requires c κs =
+    let asked = c .before .before .before .before .before .before .before .pre in
+    let turn = c .before .before .before .loop in
+    (roomy-kept (asked .0) (turn .inv .4) (turn .inv .2) (turn .inv .3), (asked .1, turn .inv .1))
 
 next-requires : tie.Need-next-requires Inv-loop μ-loop
 next-requires c κs = omega arith
@@ -29,7 +32,10 @@ loop-less : tie.Need-loop-less Inv-loop μ-loop
 loop-less c = omega arith
 
 loop-again : tie.Need-loop-again Inv-loop μ-loop
-loop-again c = (omega arith, c .next .ensures, c .before .before .before .before .before .fill-at .kept .1 .1 .0 ∙ c .before .before .before .before .before .before .before .before .before .loop .inv .2, c .before .before .before .before .before .fill-at .kept .1 .1 .1 .0 ∙ c .before .before .before .before .before .before .before .before .before .loop .inv .3, kept-join (c .before .before .before .before .before .before .before .before .before .loop .inv .4) (c .before .before .before .before .before .fill-at .ensures))
+loop-again c =
+    let fill-at-said = c .before .before .before .before .before .fill-at in
+    let turn = c .before .before .before .before .before .before .before .before .before .loop in
+    (omega arith, c .next .ensures, fill-at-said .kept .1 .1 .0 ∙ turn .inv .2, fill-at-said .kept .1 .1 .1 .0 ∙ turn .inv .3, kept-join (turn .inv .4) (fill-at-said .ensures))
 
 same-length : tie.Need-same-length Inv-loop μ-loop
 same-length c = c .before .loop .inv .2

@@ -16,7 +16,9 @@ get-requires-3 : tie.Need-get-requires-3
 get-requires-3 c κs = search needs
 
 sub-result : tie.Need-sub-result
-sub-result c = omega (arith, c .get3 .ensures, c .before .get2 .ensures, c .before .before .before .before .before .pre .0 .below (c .before .before .before .before .before .args .t) (c .before .before .before .before .before .args .line - c .before .before .before .before .before .args .n) (omega arith) (omega arith))
+sub-result c =
+    let args = c .before .before .before .before .before .args in
+    omega (arith, c .get3 .ensures, c .before .get2 .ensures, c .before .before .before .before .before .pre .0 .below (args .t) (args .line - args .n) (omega arith) (omega arith))
 
 returns : tie.Need-returns
 returns c = c .get .ensures ∙ sym (movable-row _ _ (c .before .if1 .taken) _ _ _)

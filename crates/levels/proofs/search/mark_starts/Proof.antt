@@ -32,7 +32,9 @@ loop-less : tie.Need-loop-less Inv-loop μ-loop
 loop-less c = omega arith
 
 loop-again : tie.Need-loop-again Inv-loop μ-loop
-loop-again c = (omega arith, simp length-set (c .before .before .loop .inv .1), started-more _ _ _ _ _ (c .before .before .loop .inv .2) (omega arith) (c .first-level .ensures))
+loop-again c =
+    let turn = c .before .before .loop in
+    (omega arith, simp length-set (turn .inv .1), started-more _ _ _ _ _ (turn .inv .2) (omega arith) (c .first-level .ensures))
 
 same-length : tie.Need-same-length Inv-loop μ-loop
 same-length c = c .before .loop .inv .1

@@ -29,13 +29,22 @@ loop-less : tie.Need-loop-less Inv-loop μ-loop
 loop-less c = omega arith
 
 loop-again : tie.Need-loop-again Inv-loop μ-loop
-loop-again c = (omega arith, c .before .before .before .loop .inv .1, swept-skip (c .before .before .before .loop .inv .2) (c .before .before .before .before .before .before .before .pre .1 .1) (omega arith) (c .if1 .taken))
+loop-again c =
+    let turn = c .before .before .before .loop in
+    let asked = c .before .before .before .before .before .before .before .pre in
+    (omega arith, turn .inv .1, swept-skip (turn .inv .2) (asked .1 .1) (omega arith) (c .if1 .taken))
 
 spread-requires : tie.Need-spread-requires Inv-loop μ-loop
-spread-requires c κs = (c .before .before .before .before .before .before .before .before .pre .0, (omega arith, omega arith, c .before .if1 .left, c .before .before .before .before .before .before .before .before .pre .1 .1, c .before .before .before .before .before .before .before .before .pre .1 .2))
+spread-requires c κs =
+    let asked = c .before .before .before .before .before .before .before .before .pre in
+    (asked .0, (omega arith, omega arith, c .before .if1 .left, asked .1 .1, asked .1 .2))
 
 add-more : tie.Need-add-more Inv-loop μ-loop
-add-more c = omega (arith, c .before .before .before .before .before .before .before .loop .inv .2 .grown .count, c .before .before .spread .ensures .grown .count, unmarked-most (c .before .before .before .before .before .before .before .before .before .before .before .args .n) (c .before .before .before .before .before .before .before .before .before .before .before .args .marks .now), c .before .before .before .before .before .before .before .before .before .before .before .pre .0 .cells .nodes)
+add-more c =
+    let turn = c .before .before .before .before .before .before .before .loop in
+    let args = c .before .before .before .before .before .before .before .before .before .before .before .args in
+    let asked = c .before .before .before .before .before .before .before .before .before .before .before .pre in
+    omega (arith, turn .inv .2 .grown .count, c .before .before .spread .ensures .grown .count, unmarked-most (args .n) (args .marks .now), asked .0 .cells .nodes)
 
 add-line-2 : tie.Need-add-line-2 Inv-loop μ-loop
 add-line-2 c = omega arith
@@ -44,7 +53,11 @@ loop-less-2 : tie.Need-loop-less-2 Inv-loop μ-loop
 loop-less-2 c = omega arith
 
 loop-again-2 : tie.Need-loop-again-2 Inv-loop μ-loop
-loop-again-2 c = (omega arith, c .before .before .spread .kept .1 .1 .1 .0 ∙ c .before .before .before .before .before .before .before .loop .inv .1, swept-more (c .before .before .before .before .before .before .before .loop .inv .2) (c .before .before .before .before .before .before .before .before .before .before .before .pre .1 .1) (omega arith) (c .before .before .spread .ensures))
+loop-again-2 c =
+    let spread-said = c .before .before .spread in
+    let turn = c .before .before .before .before .before .before .before .loop in
+    let asked = c .before .before .before .before .before .before .before .before .before .before .before .pre in
+    (omega arith, spread-said .kept .1 .1 .1 .0 ∙ turn .inv .1, swept-more (turn .inv .2) (asked .1 .1) (omega arith) (spread-said .ensures))
 
 same-length : tie.Need-same-length Inv-loop μ-loop
 same-length c = c .before .loop .inv .1
