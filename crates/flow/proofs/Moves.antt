@@ -14,7 +14,7 @@ use Rattle.sums.proofs.Cases.{by-eq, by-lt}
 use Rattle.star.specs.Tables.{Demands}
 use Rattle.star.specs.Lines.{sourceOn, destinationOn, onLine, lineSum, crossing}
 use Rattle.star.proofs.LineLaws.{source-lt, destination-lt, on-row, on-column, on-line-most}
-use Rattle.levels.specs.Levels.{Below, movable, Served, Layered}
+use Rattle.levels.specs.Levels.{Below, movable, Layered}
 use Rattle.levels.proofs.Crossings.{cross-lt, cross-other, cross-row, cross-column, movable-row, movable-column}
 use Rattle.levels.proofs.Growing.{at-set}
 use Rattle.flow.specs.Draws.{span, passed, Roomy, Moved, Drawn, CanPass, CanDraw}

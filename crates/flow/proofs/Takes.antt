@@ -2,16 +2,15 @@
 -- and where nothing was taken nothing has changed. Assumes nothing.
 use Prim.Native.Nat.{ℕ, max, _+_, _-_, _*_, _≤_, _<_}
 use native.Mathlib.Omega.{arith}
-use mathlib.Core.Path.{_≡_, refl, sym, _∙_, ap}
+use mathlib.Core.Path.{_≡_, refl, _∙_}
 use mathlib.Core.List.{List}
 use lib.ListN.{length, getD, set, length-set}
 use lib.Seq.{getD-set-same, getD-set-other}
 use Rattle.sums.specs.Tables.{cell}
 use Rattle.sums.proofs.Sums.{sum-update}
 use Rattle.sums.proofs.Cases.{by-eq, by-lt}
-use Rattle.star.specs.Lines.{lineSum}
-use Rattle.levels.specs.Levels.{Below, Layered, Searched}
-use Rattle.flow.specs.Draws.{span, columnRoom, Roomy, Kept, Drawn, Idle, Took, Full}
+use Rattle.levels.specs.Levels.{Below, Searched}
+use Rattle.flow.specs.Draws.{span, columnRoom, Roomy, Kept, Drawn, Took, Full}
 use Rattle.flow.proofs.Stores.{store-row, store-column, store-sum, store-below}
 
 -- ---- spans that are kept

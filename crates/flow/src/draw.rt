@@ -8,12 +8,11 @@ use levels::search::search;
 use star::tables::get;
 use star::tables::put;
 ghost use mathlib.Core.Path.{_≡_};
-ghost use mathlib.Core.Bool.{cond};
 ghost use Prim.Native.Nat.{ℕ, min, _+_, _-_, _*_, _<_, _≤_};
 ghost use lib.ListN.{length, getD, set};
 ghost use Rattle.star.specs.Tables.{Square};
 ghost use Rattle.star.specs.Lines.{sourceOn, destinationOn};
-ghost use Rattle.levels.specs.Levels.{Below, Layered, Searched};
+ghost use Rattle.levels.specs.Levels.{Below};
 ghost use Rattle.flow.specs.Draws.{Roomy, CanPass, passed, Drawable, CanDraw, Drawn, Took, Full};
 
 // Passes x into a line at its t-th pair.

@@ -4,7 +4,7 @@ use crate::numbers::smaller;
 use star::tables::get;
 use star::tables::put;
 ghost use mathlib.Core.Path.{_≡_};
-ghost use Prim.Native.Nat.{ℕ, _+_, _*_, _<_, _≤_};
+ghost use Prim.Native.Nat.{ℕ, _+_, _<_, _≤_};
 ghost use lib.ListN.{length, getD};
 ghost use Rattle.flow.specs.Draws.{Roomy, Kept};
 

@@ -9,7 +9,6 @@ use crate::fill::copy;
 use crate::fill::fill;
 ghost use Prim.Native.Nat.{_*_, _≤_};
 ghost use lib.ListN.{length};
-ghost use mathlib.Core.Path.{_≡_};
 ghost use Rattle.flow.specs.Flows.{Feasible, Closed};
 ghost use Rattle.flow.specs.Certified.{Bounded, Certified};
 

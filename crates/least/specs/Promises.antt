@@ -1,9 +1,11 @@
 -- What the functions of the least rule ask of their callers, and what they promise. `n` is N; a primed table is what the function leaves.
-use Prim.Native.Nat.{ℕ, _+_, _*_, _≤_, _<_}
+use Prim.Native.Nat.{ℕ, _+_, _-_, _*_, _≤_, _<_}
 use mathlib.Core.Path.{_≡_}
 use mathlib.Core.Bool.{true, false}
 use mathlib.Core.List.{List}
 use lib.ListN.{length, getD, drop}
+use lib.Dec.{ltb}
+use Rattle.sums.specs.Sums.{sumTo, bit}
 use Rattle.sums.specs.Tables.{cell, tab}
 use Rattle.star.specs.Tables.{Square, Demands, Capacities}
 use Rattle.star.specs.Lines.{onLine, excess}
@@ -23,10 +25,18 @@ pub record Line (n : ℕ) (cap e : List ℕ) (ℓ : ℕ) : Type 0 where
   pub capacities : Capacities n cap
   pub line : ℓ < 2 * n
 
--- a line too long is divided: the share and the remainder of each cell, and what is missing
-pub record Divided (n : ℕ) (cap e : List ℕ) (ℓ : ℕ) (shares remainders : List ℕ) (rest : ℕ) : Type 0 where
+-- A cell's claim to a missing slot, one number of its remainder and its index: of two cells the one with the larger claim comes before the other.
+unfoldable pub claim : (remainder t : ℕ) → ℕ
+claim r t = r * 64 + (63 - t)
+
+-- how many of n claims are larger than the t-th
+unfoldable pub larger : (n : ℕ) (claims : List ℕ) (t : ℕ) → ℕ
+larger n claims t = sumTo n (λ u. bit (ltb (getD claims t 0) (getD claims u 0)))
+
+-- a line too long is divided: the share and the claim of each cell, and what is missing
+pub record Divided (n : ℕ) (cap e : List ℕ) (ℓ : ℕ) (shares claims : List ℕ) (rest : ℕ) : Type 0 where
   pub each : (t : ℕ) → t < n → getD shares t 0 ≡ share n cap e ℓ t
-  pub remains : (t : ℕ) → t < n → getD remainders t 0 ≡ remainder n cap e ℓ t
+  pub claimed : (t : ℕ) → t < n → getD claims t 0 ≡ claim (remainder n cap e ℓ t) t
   pub lacks : rest ≡ missing n cap e ℓ
 
 -- a line too long is shared, any other is left as it is

@@ -4,7 +4,7 @@ use crate::pairs::can_move;
 use crate::pairs::cross;
 use crate::pairs::seat_of;
 ghost use mathlib.Core.Path.{_≡_};
-ghost use Prim.Native.Nat.{ℕ, _+_, _*_, _<_, _≤_};
+ghost use Prim.Native.Nat.{_+_, _*_, _<_, _≤_};
 ghost use lib.ListN.{length, getD};
 ghost use Rattle.levels.specs.Levels.{Below, Searched};
 ghost use Rattle.levels.specs.Searches.{Start, Started, Spread, Swept};
