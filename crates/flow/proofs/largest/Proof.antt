@@ -1,3 +1,4 @@
+-- `flow::largest` meets its contract: the worker writes the first cells alone, and only they matter. Assumes nothing.
 use native.Mathlib.Nat.{le-of-eq}
 use native.Mathlib.Omega.{arith}
 use mathlib.Core.Path.{sym, _∙_}

@@ -1,3 +1,5 @@
+-- `flow::largest_on` meets its contract: from zeros and limits through the fill and the growth spans are kept, and what is left is closed.
+-- Assumes nothing.
 use native.Mathlib.Omega.{arith}
 use mathlib.Core.Path.{_∙_}
 use borrow.Author.Needs.{needs}

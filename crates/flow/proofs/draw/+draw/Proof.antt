@@ -1,3 +1,5 @@
+-- `flow::draw::draw` meets its contract. It calls itself one level below, so the level is its measure. The loop's invariant: less than is wanted
+-- was drawn through the pairs passed. The loop's measure is what is left of the pairs. Assumes nothing.
 use Prim.Native.Nat.{ℕ, _≤_, _<_, _-_}
 use native.Mathlib.Omega.{arith}
 use mathlib.Core.Path.{_≡_, refl, _∙_}

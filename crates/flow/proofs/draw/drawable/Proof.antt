@@ -1,3 +1,4 @@
+-- `flow::draw::drawable` meets its contract: the other line's level is tested, then the smaller of two numbers. Assumes nothing.
 use native.Mathlib.Omega.{arith}
 use mathlib.Core.Path.{ap}
 use lib.ListN.{getD}

@@ -1,3 +1,5 @@
+-- `flow::draw::grow` meets its contract. The loop's invariant: spans are kept. Each round takes from the columns' room, which is the measure.
+-- Assumes nothing.
 use native.Mathlib.Omega.{arith}
 use mathlib.Core.Path.{_≡_, refl, _∙_}
 use lib.ListN.{length}

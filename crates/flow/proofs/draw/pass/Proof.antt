@@ -1,3 +1,4 @@
+-- `flow::draw::pass` meets its contract: the two cases of a line. Assumes nothing.
 use native.Mathlib.Omega.{arith}
 use mathlib.Core.Path.{_∙_}
 use borrow.Author.Needs.{needs}

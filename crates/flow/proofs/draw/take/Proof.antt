@@ -1,3 +1,4 @@
+-- `flow::draw::take` meets its contract: what was drawn for the column leaves its room. Assumes nothing.
 use Prim.Native.Nat.{_+_}
 use native.Mathlib.Omega.{arith}
 use mathlib.Core.Path.{_≡_, ap}

@@ -1,3 +1,5 @@
+-- `flow::draw::take_all` meets its contract. The loop's invariant: its own promise for the columns passed. The measure is what is left of the
+-- columns. Assumes nothing.
 use Prim.Native.Nat.{_≤_, _-_}
 use native.Mathlib.Omega.{arith}
 use mathlib.Core.Path.{_≡_, refl, _∙_}

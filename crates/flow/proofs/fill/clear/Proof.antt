@@ -1,3 +1,4 @@
+-- `flow::fill::clear` meets its contract. The loop's invariant: the cells passed are 0. The measure is what is left of them. Assumes nothing.
 use Prim.Native.Nat.{ℕ, _≤_, _<_, _-_}
 use native.Mathlib.Omega.{arith}
 use mathlib.Core.Logic.{⊎-elim}

@@ -1,3 +1,4 @@
+-- `flow::fill::fill_at` meets its contract: what the cell gains both lines' rooms lose. Assumes nothing.
 use Prim.Native.Nat.{_+_, _-_}
 use native.Mathlib.Omega.{arith}
 use lib.ListN.{getD, length-set}

@@ -1,3 +1,4 @@
+-- `flow::fill::fill_row` meets its contract. The loop's invariant: spans are kept. The measure is what is left of the columns. Assumes nothing.
 use Prim.Native.Nat.{_≤_, _<_, _-_}
 use native.Mathlib.Omega.{arith}
 use mathlib.Core.Path.{_≡_, refl, _∙_}

@@ -1,3 +1,4 @@
+-- `levels::pairs::can_move` gives what can move at a pair: the two cases of the definition, and a cell is at most its bound. Assumes nothing.
 use Prim.Native.Nat.{_-_}
 use native.Mathlib.Omega.{arith}
 use mathlib.Core.Path.{sym, _∙_, ap₂}

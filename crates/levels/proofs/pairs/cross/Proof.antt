@@ -1,3 +1,4 @@
+-- `levels::pairs::cross` gives the crossing line: the two cases of the definition. Assumes nothing.
 use mathlib.Core.Path.{sym}
 use borrow.Author.Needs.{needs}
 use Rattle.levels.proofs.Crossings.{cross-row, cross-column}

@@ -1,3 +1,5 @@
+-- `levels::search::mark_starts` meets its contract. The loop's invariant: the lines passed have their first level. The measure is what is left
+-- of the lines. Assumes nothing.
 use Prim.Native.Nat.{_≤_, _-_, _*_}
 use native.Mathlib.Omega.{arith}
 use mathlib.Core.Path.{_≡_, refl}

@@ -1,3 +1,5 @@
+-- `levels::search::search` meets its contract. The loop's invariant: levels up to this one are given, and those below it are spent. Each level
+-- marks a line, so the lines without a mark are the measure, and no level passes 129. Assumes nothing.
 use Prim.Native.Nat.{_≤_, _*_, _+_}
 use native.Mathlib.Omega.{arith}
 use mathlib.Core.Path.{_≡_, refl, _∙_}

@@ -1,3 +1,5 @@
+-- `levels::search::spread` meets its contract. The loop's invariant: its own promise for the pairs passed. The measure is what is left of the
+-- pairs. Assumes nothing.
 use Prim.Native.Nat.{_≤_, _-_}
 use native.Mathlib.Omega.{arith}
 use mathlib.Core.Path.{_≡_, refl, sym, _∙_, ap}

@@ -1,3 +1,5 @@
+-- `levels::search::sweep` meets its contract. The loop's invariant: its own promise for the lines passed. The measure is what is left of the
+-- lines. Assumes nothing.
 use Prim.Native.Nat.{_≤_, _-_, _*_}
 use native.Mathlib.Omega.{arith}
 use mathlib.Core.Path.{_≡_, refl, _∙_}
