@@ -10,7 +10,7 @@ use Rattle.sums.specs.Tables.{cell, tab}
 use Rattle.star.specs.Tables.{Square, Demands, Capacities}
 use Rattle.star.specs.Lines.{onLine, excess}
 use Rattle.flow.specs.Flows.{Closed}
-use Rattle.least.specs.Least.{Greatest, longer, share, remainder, missing, shared, MeetInZero}
+use Rattle.least.specs.Least.{Greatest, longer, share, remainder, missing, shared}
 
 -- ---- a line of a table
 -- the cells of one line are now given by f, and every other cell is as before
@@ -43,6 +43,10 @@ pub record Divided (n : ℕ) (cap e : List ℕ) (ℓ : ℕ) (shares claims : Lis
 pub record LineShared (n : ℕ) (cap : List ℕ) (ℓ : ℕ) (k k' : List ℕ) : Type 0 where
   pub cut : longer n cap k ℓ ≡ true → Rewritten n ℓ (shared n cap k ℓ) k k'
   pub uncut : longer n cap k ℓ ≡ false → k' ≡ k
+
+-- two lines still overflowing in E meet only in a zero cell
+pub record MeetInZero (n : ℕ) (cap e : List ℕ) : Type 0 where
+  pub zero : (i j : ℕ) → i < n → j < n → longer n cap e i ≡ true → longer n cap e (n + j) ≡ true → cell n e i j ≡ 0
 
 -- E in a table of exactly n * n cells, whose lines too long meet only in zero cells
 pub record CanShare (n : ℕ) (cap e : List ℕ) : Type 0 where

@@ -7,12 +7,11 @@ ghost use Prim.Native.Nat.{ℕ, _+_, _*_, _<_, _≤_};
 ghost use lib.Dec.{ltb};
 ghost use lib.ListN.{length, getD, set};
 ghost use Rattle.sums.specs.Sums.{bit};
-ghost use Rattle.sums.specs.Tables.{written};
+ghost use Rattle.sums.specs.Tables.{square, written};
 ghost use Rattle.star.specs.Tables.{Square};
 ghost use Rattle.star.specs.Lines.{sourceOn, destinationOn, lineSum};
 ghost use Rattle.least.specs.Least.{left, keptCell, keptFrom};
 ghost use Rattle.least.specs.Promises.{Rewritten, Line, claim, larger, Divided, LineShared, CanShare, CanKeep};
-ghost use Rattle.sums.specs.Tables.{square};
 
 // The t-th pair of a line has x from now on.
 fn put_on_line(n: usize, table: &mut [u32], line: usize, t: usize, x: u32)
@@ -42,7 +41,7 @@ fn leave(n: usize, demand: &[u32], withdrawn: &[u32], table: &mut [u32])
     }
 }
 
-// A cell's claim to a missing slot: of two cells the one with the larger claim comes first.
+// A cell's claim to a missing slot: of two cells the one with the larger claim comes first. The sum of a line is at most 64 × 65,535, so it fits.
 fn claim(remainder: u32, t: usize) -> u32
     requires { ⌜ (remainder < 4194240) × (t < 64) ⌝ }
     ensures { λ r. ⌜ r ≡ claim remainder t ⌝ }
@@ -100,7 +99,7 @@ fn rank(n: usize, claims: &[u32], t: usize) -> u32
     count
 }
 
-// A share, and one slot more where the rank of its cell is below the number of slots missing.
+// A share, and one slot more where the rank of its cell is below the number of slots missing. A share is at most 65,535 × 1,024, so it fits.
 fn gained(share: u32, rank: u32, missing: u32) -> u32
     requires { ⌜ share ≤ 67107840 ⌝ }
     ensures { λ r. ⌜ r ≡ share + bit (ltb rank missing) ⌝ }
