@@ -2,3 +2,4 @@
 pub mod Slacks
 pub mod Kept
 pub mod Plans
+pub mod Theorems
