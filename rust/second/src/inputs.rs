@@ -34,6 +34,14 @@ impl Random {
         mixed ^ (mixed >> 31)
     }
 
+    pub fn words(&mut self, count: usize) -> Vec<u32> {
+        (0..count).map(|_| self.word() as u32).collect()
+    }
+
+    pub fn bytes(&mut self, count: usize) -> Vec<u8> {
+        (0..count).map(|_| self.word() as u8).collect()
+    }
+
     /// From 0 up to but not including `end`.
     pub fn below(&mut self, end: usize) -> usize {
         (self.word() % end as u64) as usize
