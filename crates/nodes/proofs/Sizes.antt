@@ -1,13 +1,10 @@
--- How many of the first n nodes a set has, as a sum of its members; what the operations do to it. The laws assume nothing.
+-- How many of the nodes below n a set has: what the operations do to it, by sums of members. The laws assume nothing.
 use mathlib.Core.Path.{_≡_}
 use Prim.Native.Nat.{ℕ, _+_, _*_, _≤_, _<_}
 use native.Mathlib.Omega.{arith}
 use Rattle.sums.specs.Sums.{sumTo}
 use Rattle.sums.proofs.Sums.{sum-ext, sum-add, sum-update}
-use Rattle.nodes.specs.Sets.{member, With, Without, Both, Minus}
-
-pub size : (n s : ℕ) → ℕ
-size n s = sumTo n (λ i. member i s)
+use Rattle.nodes.specs.Sets.{member, size, With, Without, Both, Minus}
 
 pub size-with : (n s r i : ℕ) → i < n → With s i r → size n r ≤ size n s + 1
 unfolding size

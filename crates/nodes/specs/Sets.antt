@@ -2,11 +2,16 @@
 use Prim.Native.Nat.{ℕ, zero, suc, _+_, _*_, _/_, _%_, _<_, _≤_}
 use mathlib.Core.Path.{_≡_}
 use mathlib.Core.Bool.{Bool, true, false}
+use Rattle.sums.specs.Sums.{sumTo}
 
 -- 1 where node i is in s, and 0 elsewhere
 unfoldable pub member : (i s : ℕ) → ℕ
 member zero s = s % 2
 member (suc i) s = member i (s / 2)
+
+-- how many of the nodes below n are in s
+unfoldable pub size : (n s : ℕ) → ℕ
+size n s = sumTo n (λ i. member i s)
 
 pub record None (r : ℕ) : Type 0 where
   pub out : (i : ℕ) → member i r ≡ 0
