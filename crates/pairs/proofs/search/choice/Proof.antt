@@ -1,3 +1,4 @@
+use Rattle.pairs.proofs.Scans.{choice-law}
 use borrow.Author.Needs.{needs}
 use Rattle.pairs.proofs.search.choice.Statement.{statement}
 use Rattle.pairs.proofs.search.choice.Tie as tie
@@ -21,7 +22,7 @@ first-requires c κs = search needs
 
 -- src/search.rt:27:1
 returns : tie.Need-returns
-returns c = ?
+returns c = choice-law _ _ _ _ _ _ _ (c .before .before .set-at .ensures) (c .before .both .ensures) (c .first .ensures) (c .before .before .before .before .pre .0)
 
 pub choice-spec : {M : Type 1} → statement M
 choice-spec = tie.close (tie.spec set-at-requires both-requires first-requires returns)
