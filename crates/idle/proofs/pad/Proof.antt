@@ -1,0 +1,55 @@
+use borrow.Author.Needs.{needs}
+use Rattle.idle.proofs.pad.Statement.{statement}
+use Rattle.idle.proofs.pad.Tie as tie
+use Rattle.idle.proofs.pad.Reads as reads
+use Rattle.idle.proofs.pad.Lts as lts
+use Rattle.idle.proofs.copy.Reads as copy-reads
+use Rattle.idle.proofs.lacks.Reads as lacks-reads
+use Rattle.idle.proofs.largest.Reads as largest-reads
+use Rattle.idle.proofs.line_sums.Reads as line-sums-reads
+use Rattle.idle.proofs.pad_all.Reads as pad-all-reads
+
+-- src/lib.rt:117:5
+copy-requires : tie.Need-copy-requires
+copy-requires c κs = search needs
+
+-- src/lib.rt:118:5
+line-sums-requires : tie.Need-line-sums-requires
+line-sums-requires c κs = search needs
+
+-- src/lib.rt:119:9
+largest-requires : tie.Need-largest-requires
+largest-requires c κs = search needs
+
+-- src/lib.rt:120:5
+lacks-requires : tie.Need-lacks-requires
+lacks-requires c κs = ?
+
+-- src/lib.rt:121:5
+pad-all-requires : tie.Need-pad-all-requires
+pad-all-requires c κs = ?
+
+-- src/lib.rt:113:1
+same-length : tie.Need-same-length
+same-length c = search needs
+
+-- src/lib.rt:113:1
+same-length-2 : tie.Need-same-length-2
+same-length-2 c = search needs
+
+-- src/lib.rt:113:1
+returns : tie.Need-returns
+returns c = ?
+
+pub pad-spec : {M : Type 1} → statement M
+pad-spec =
+    tie.close
+    (tie.spec
+    copy-requires
+    line-sums-requires
+    largest-requires
+    lacks-requires
+    pad-all-requires
+    same-length
+    same-length-2
+    returns)

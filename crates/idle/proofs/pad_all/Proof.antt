@@ -1,0 +1,58 @@
+use Rattle.idle.proofs.pad_all.Statement.{statement}
+use Rattle.idle.proofs.pad_all.Tie as tie
+use Rattle.idle.proofs.pad_all.Reads as reads
+use Rattle.idle.proofs.pad_all.Lts as lts
+use Rattle.idle.proofs.pad_row.Reads as pad-row-reads
+
+abbrev Inv-loop : tie.InvT-loop
+Inv-loop n padded₀ lack₀ i₀ padded lack i = ?
+
+abbrev μ-loop : tie.MeasureT-loop
+μ-loop n padded₀ lack₀ i₀ padded lack i = ?
+
+-- src/lib.rt:106:5
+loop-holds : tie.Need-loop-holds Inv-loop μ-loop
+loop-holds c = ?
+
+-- src/lib.rt:107:9
+pad-row-requires : tie.Need-pad-row-requires Inv-loop μ-loop
+pad-row-requires c κs = ?
+
+-- src/lib.rt:108:9
+add-i : tie.Need-add-i Inv-loop μ-loop
+add-i c = ?
+
+-- src/lib.rt:106:5
+loop-less : tie.Need-loop-less Inv-loop μ-loop
+loop-less c = ?
+
+-- src/lib.rt:106:5
+loop-again : tie.Need-loop-again Inv-loop μ-loop
+loop-again c = ?
+
+-- src/lib.rt:101:1
+same-length : tie.Need-same-length Inv-loop μ-loop
+same-length c = ?
+
+-- src/lib.rt:101:1
+same-length-2 : tie.Need-same-length-2 Inv-loop μ-loop
+same-length-2 c = ?
+
+-- src/lib.rt:101:1
+returns : tie.Need-returns Inv-loop μ-loop
+returns c = ?
+
+pub pad-all-spec : {M : Type 1} → statement M
+pad-all-spec =
+    tie.close
+    (tie.spec
+    Inv-loop
+    μ-loop
+    loop-holds
+    pad-row-requires
+    add-i
+    loop-less
+    loop-again
+    same-length
+    same-length-2
+    returns)
