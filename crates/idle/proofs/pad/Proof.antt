@@ -1,3 +1,6 @@
+use Rattle.idle.proofs.Pads.{most-small, lacks-of, padded-of}
+use Rattle.arrays.proofs.Stores.{square-kept}
+use native.Mathlib.Omega.{arith}
 use borrow.Author.Needs.{needs}
 use Rattle.idle.proofs.pad.Statement.{statement}
 use Rattle.idle.proofs.pad.Tie as tie
@@ -23,11 +26,11 @@ largest-requires c κs = search needs
 
 -- src/lib.rt:120:5
 lacks-requires : tie.Need-lacks-requires
-lacks-requires c κs = ?
+lacks-requires c κs = (c .before .before .before .before .before .before .before .before .before .before .before .before .before .before .pre .square .nodes, omega (arith, c .before .before .before .before .before .before .before .before .before .before .before .before .before .before .pre .lines, c .before .before .before .before .before .line-sums .kept .1 .1 .0), most-small (c .before .before .before .before .before .before .before .before .before .before .before .before .before .before .pre .small) (c .before .before .before .before .before .line-sums .ensures) (c .before .largest .ensures), c .before .largest .ensures)
 
 -- src/lib.rt:121:5
 pad-all-requires : tie.Need-pad-all-requires
-pad-all-requires c κs = ?
+pad-all-requires c κs = record { square = square-kept (c .before .before .before .before .before .before .before .before .before .before .before .before .before .before .before .before .before .before .before .args .padded .now) _ (c .before .before .before .before .before .before .before .before .before .before .before .before .before .before .copy .kept .1 .1 .0) (c .before .before .before .before .before .before .before .before .before .before .before .before .before .before .before .before .before .before .before .pre .table); lines = omega (arith, c .before .before .before .before .before .before .before .before .before .before .before .before .before .before .before .before .before .before .before .pre .lines, c .before .before .before .before .before .before .before .before .before .before .line-sums .kept .1 .1 .0, c .before .before .before .before .lacks .kept .1 .0); r = c .before .before .before .before .before .before .largest .result; small = most-small (c .before .before .before .before .before .before .before .before .before .before .before .before .before .before .before .before .before .before .before .pre .small) (c .before .before .before .before .before .before .before .before .before .before .line-sums .ensures) (c .before .before .before .before .before .before .largest .ensures); lacks = lacks-of (c .before .before .before .before .before .before .before .before .before .before .before .before .before .before .copy .ensures) (c .before .before .before .before .before .before .before .before .before .before .line-sums .ensures) (c .before .before .before .before .before .before .largest .ensures) (c .before .before .before .before .lacks .ensures) }
 
 -- src/lib.rt:113:1
 same-length : tie.Need-same-length
@@ -39,7 +42,7 @@ same-length-2 c = search needs
 
 -- src/lib.rt:113:1
 returns : tie.Need-returns
-returns c = ?
+returns c = padded-of (c .before .before .before .before .before .before .before .before .before .before .before .before .before .before .before .before .before .before .before .copy .ensures) (c .before .before .before .before .before .before .before .before .before .before .before .before .before .before .before .line-sums .ensures) (c .before .before .before .before .before .before .before .before .before .before .before .largest .ensures) (c .before .before .before .before .before .before .before .before .before .lacks .ensures) (c .before .before .before .before .pad-all .ensures)
 
 pub pad-spec : {M : Type 1} → statement M
 pad-spec =
