@@ -9,7 +9,7 @@ ghost use Rattle.star.specs.Tables.{Square};
 pub fn get(n: usize, table: &[u16], i: usize, j: usize) -> u32
     requires { ⌜ Square n (now table) ⌝ }
     requires { ⌜ (i < n) × (j < n) ⌝ }
-    ensures { λ r. ⌜ r ≡ cell n (now (table .entry)) i j ⌝ }
+    ensures { λ r. ⌜ (r ≡ cell n (now (table .entry)) i j) × (r < 65536) ⌝ }
 {
     table[i * n + j] as u32
 }

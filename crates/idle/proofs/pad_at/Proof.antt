@@ -35,11 +35,11 @@ get-requires c κs = (c .before .before .before .before .before .before .before 
 
 -- src/lib.rt:82:34
 add-put : tie.Need-add-put
-add-put c = omega (arith, c .get .ensures, pad-small (c .before .before .before .before .before .before .before .before .before .before .pre .0) (c .before .before .before .before .before .before .before .before .before .before .pre .1 .0) (c .before .before .before .before .before .before .before .before .before .before .pre .1 .1) (c .before .before .before .before .before .before .number .ensures) (c .before .before .before .before .number2 .ensures) (c .before .before .before .smaller .ensures))
+add-put c = omega (arith, c .get .ensures .0, pad-small (c .before .before .before .before .before .before .before .before .before .before .pre .0) (c .before .before .before .before .before .before .before .before .before .before .pre .1 .0) (c .before .before .before .before .before .before .before .before .before .before .pre .1 .1) (c .before .before .before .before .before .before .number .ensures) (c .before .before .before .before .number2 .ensures) (c .before .before .before .smaller .ensures))
 
 -- src/lib.rt:82:5
 put-requires : tie.Need-put-requires
-put-requires c κs = (c .before .before .before .before .before .before .before .before .before .before .pre .0 .square, (c .before .before .before .before .before .before .before .before .before .before .pre .1 .0, c .before .before .before .before .before .before .before .before .before .before .pre .1 .1, omega (arith, c .get .ensures, pad-small (c .before .before .before .before .before .before .before .before .before .before .pre .0) (c .before .before .before .before .before .before .before .before .before .before .pre .1 .0) (c .before .before .before .before .before .before .before .before .before .before .pre .1 .1) (c .before .before .before .before .before .before .number .ensures) (c .before .before .before .before .number2 .ensures) (c .before .before .before .smaller .ensures))))
+put-requires c κs = (c .before .before .before .before .before .before .before .before .before .before .pre .0 .square, (c .before .before .before .before .before .before .before .before .before .before .pre .1 .0, c .before .before .before .before .before .before .before .before .before .before .pre .1 .1, omega (arith, c .get .ensures .0, pad-small (c .before .before .before .before .before .before .before .before .before .before .pre .0) (c .before .before .before .before .before .before .before .before .before .before .pre .1 .0) (c .before .before .before .before .before .before .before .before .before .before .pre .1 .1) (c .before .before .before .before .before .before .number .ensures) (c .before .before .before .before .number2 .ensures) (c .before .before .before .smaller .ensures))))
 
 -- src/lib.rt:83:32
 sub-put-number : tie.Need-sub-put-number
@@ -71,7 +71,7 @@ same-length-2 c = c .before .before .put-number2 .kept .0 ∙ c .before .before 
 
 -- src/lib.rt:74:1
 returns : tie.Need-returns
-returns c = rw (c .before .before .before .before .before .before .before .before .before .before .put .ensures, c .before .before .before .before .before .before .before .before .before .before .before .get .ensures, c .before .before .put-number2 .ensures, c .before .before .before .before .before .before .put-number .ensures) (pad-law (c .before .before .before .before .before .before .before .before .before .before .before .before .before .before .before .before .before .before .before .before .before .pre .0) (c .before .before .before .before .before .before .before .before .before .before .before .before .before .before .before .before .before .before .before .before .before .pre .1 .0) (c .before .before .before .before .before .before .before .before .before .before .before .before .before .before .before .before .before .before .before .before .before .pre .1 .1) (c .before .before .before .before .before .before .before .before .before .before .before .before .before .before .before .before .before .number .ensures) (c .before .before .before .before .before .before .before .before .before .before .before .before .before .before .before .number2 .ensures) (c .before .before .before .before .before .before .before .before .before .before .before .before .before .before .smaller .ensures))
+returns c = rw (c .before .before .before .before .before .before .before .before .before .before .put .ensures, c .before .before .before .before .before .before .before .before .before .before .before .get .ensures .0, c .before .before .put-number2 .ensures, c .before .before .before .before .before .before .put-number .ensures) (pad-law (c .before .before .before .before .before .before .before .before .before .before .before .before .before .before .before .before .before .before .before .before .before .pre .0) (c .before .before .before .before .before .before .before .before .before .before .before .before .before .before .before .before .before .before .before .before .before .pre .1 .0) (c .before .before .before .before .before .before .before .before .before .before .before .before .before .before .before .before .before .before .before .before .before .pre .1 .1) (c .before .before .before .before .before .before .before .before .before .before .before .before .before .before .before .before .before .number .ensures) (c .before .before .before .before .before .before .before .before .before .before .before .before .before .before .before .number2 .ensures) (c .before .before .before .before .before .before .before .before .before .before .before .before .before .before .smaller .ensures))
 
 pub pad-at-spec : {M : Type 1} → statement M
 pad-at-spec =

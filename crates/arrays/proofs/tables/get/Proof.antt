@@ -31,7 +31,7 @@ cast-result c = omega (arith, c .shared-slice-known .given (c .before .args .i *
 -- src/tables.rt:9:1
 returns : tie.Need-returns
 unfolding cell
-returns c = search needs
+returns c = (search needs, omega (arith, c .shared-slice-known .given (c .before .args .i * c .before .args .n + c .before .args .j)))
 
 pub get-spec : {M : Type 1} → statement M
 get-spec =
