@@ -53,7 +53,7 @@ module _ {n : ℕ} {x y source : List ℕ} {h : ℕ} (d : Taken n x y source h) 
       (λ le. let e : n + (ℓ - n) ≡ ℓ = omega arith in rw e at (column-less (ℓ - n) (omega arith) (full (ℓ - n) (omega arith))))
 
 -- ---- a run of equal slots more
-module _ {n l : ℕ} {s u bytes : List ℕ} {t : ℕ} (h : ℕ) (w : Wrote n l s u bytes t (t + h)) where
+module _ {n : ℕ} {s u bytes : List ℕ} {t : ℕ} (h : ℕ) (w : Wrote n s u bytes t (t + h)) where
   pub count-more : (i j : ℕ) → j < n → count n (t + h) u i j ≡ count n t s i j + h * hit (getD bytes j 0) i
   unfolding count
   count-more i j hj =
@@ -76,25 +76,25 @@ module _ {n l : ℕ} {s u bytes : List ℕ} {t : ℕ} (h : ℕ) (w : Wrote n l s
     }
 
 -- ---- the whole
-module _ {n l : ℕ} {padded due source bytes schedule : List ℕ} {t most : ℕ} (c : CanHold n l padded due source bytes schedule t most) where
+module _ {n : ℕ} {padded due source schedule : List ℕ} {t most : ℕ} (c : CanHold n padded due source schedule t most) where
   pub hold-last : CanLast n padded due source most
   hold-last = record {
-    table = c .rooms .table;
-    table-due = c .rooms .table-due;
-    sources = c .rooms .sources;
+    table = c .table;
+    table-due = c .table-due;
+    sources = c .sources;
     full = c .full;
     gets = c .gets;
     some = c .some;
   }
 
-  pub hold-hear : CanHear n due source bytes
-  hold-hear = record { table = c .rooms .table-due; sources = c .rooms .sources; outs = c .rooms .outs; full = c .full }
+  pub hold-hear : {bytes : List ℕ} → n ≤ length bytes → CanHear n due source bytes
+  hold-hear fits = record { table = c .table-due; sources = c .sources; outs = fits; full = c .full }
 
   module _ {h : ℕ} (d : Lasts n padded due source most h) where
     pub hold-take : CanTake n padded source h
     hold-take = record {
-      table = c .rooms .table;
-      sources = c .rooms .sources;
+      table = c .table;
+      sources = c .sources;
       enough = λ j hj lt. by-eq (cell n due (getD source j 0) j) 0
           (λ e. omega (arith, d .all j hj, lasting-idle (cell n due (getD source j 0) j) (cell n padded (getD source j 0) j) e))
           (λ ne. omega (
@@ -117,7 +117,7 @@ module _ {n l : ℕ} {padded due source bytes schedule : List ℕ} {t most : ℕ
       byte-heard j hj = ⊎-elim (λ a. inl (omega (arith, a .0, c .full j hj))) (λ b. inr (b .0)) (byte-is j hj)
 
       byte-source : (j : ℕ) → j < n → getD out j 0 < n → getD out j 0 ≡ getD source j 0
-      byte-source j hj lt = ⊎-elim (λ a. a .0) (λ b. absurd (omega (arith, b .0, c .rooms .table .nodes))) (byte-is j hj)
+      byte-source j hj lt = ⊎-elim (λ a. a .0) (λ b. absurd (omega (arith, b .0, c .table .nodes))) (byte-is j hj)
 
       byte-once : (j u : ℕ) → j < n → u < n → getD out j 0 < n → getD out j 0 ≡ getD out u 0 → j ≡ u
       unfolding taken
@@ -133,18 +133,18 @@ module _ {n l : ℕ} {padded due source bytes schedule : List ℕ} {t most : ℕ
             c .once (getD source j 0) (c .full j hj),
           )))
 
-      pub hold-take-due : length out ≡ length bytes → CanTake n due out h
-      hold-take-due len = record {
-        table = c .rooms .table-due;
-        sources = omega (arith, c .rooms .outs);
+      pub hold-take-due : n ≤ length out → CanTake n due out h
+      hold-take-due fits = record {
+        table = c .table-due;
+        sources = fits;
         enough = λ j hj lt. ⊎-elim
             (λ a. rw (a .0) (omega (arith, d .all j hj, lasting-due (cell n due (getD source j 0) j) (cell n padded (getD source j 0) j) (a .1))))
-            (λ b. absurd (omega (arith, b .0, c .rooms .table .nodes)))
+            (λ b. absurd (omega (arith, b .0, c .table .nodes)))
             (byte-is j hj);
       }
 
-      pub hold-law : {padded' due' schedule' : List ℕ} → Taken n padded padded' source h → Taken n due due' out h → Wrote n l schedule schedule' out t (t + h)
-          → Holds n l padded due source schedule padded' due' schedule' t most h
+      pub hold-law : {padded' due' schedule' : List ℕ} → Taken n padded padded' source h → Taken n due due' out h → Wrote n schedule schedule' out t (t + h)
+          → Holds n padded due source schedule padded' due' schedule' t most h
       hold-law dv dr w = record {
         some = d .some;
         within = d .within;

@@ -4,15 +4,14 @@ use mathlib.Core.List.{List}
 use Prim.Native.Nat.{ℕ, zero, suc, _+_, _-_, _*_, _≤_, _<_}
 use native.Mathlib.Omega.{arith}
 use borrow.Author.Count.{below-more}
-use lib.Arith.{digits-lt}
 use lib.ListN.{length, getD, set, drop, length-set}
 use Rattle.sums.specs.Sums.{hit}
 use Rattle.sums.specs.Tables.{cell}
 use Rattle.sums.proofs.Sums.{hit-same, hit-other}
 use Rattle.sums.proofs.Cases.{by-eq, by-lt}
 use Rattle.sums.proofs.Tables.{cell-lt, set-here, set-row, set-col}
-use Rattle.arrays.specs.Arrays.{Frame}
-use Rattle.arrays.proofs.Stores.{stored-more, beyond-kept}
+use Rattle.arrays.specs.Arrays.{Slot}
+use Rattle.arrays.proofs.Stores.{stored-more, beyond-kept, beyond-more}
 use Rattle.holds.specs.Holds.{lasting, heardFrom, CanLast, Lasts, CanHear, Hears, CanTake, Taken, Wrote}
 
 -- ---- how long a pair lasts, and what is heard of it
@@ -139,28 +138,28 @@ pub take-end : {n : ℕ} {x y source : List ℕ} {h j : ℕ} → Taking n x y so
 take-end g le = record { less = λ i u hi hu. g .less i u hi (omega arith) }
 
 -- ---- the destinations below j of slot k are written
-pub record Writing (n l : ℕ) (s u bytes : List ℕ) (k j : ℕ) : Type 0 where
+pub record Writing (n : ℕ) (s u bytes : List ℕ) (k j : ℕ) : Type 0 where
   pub upto : j ≤ n
   pub len : length u ≡ length s
   pub new : (v : ℕ) → v < j → cell n u k v ≡ getD bytes v 0
   pub old : (m v : ℕ) → m < k → v < n → cell n u m v ≡ cell n s m v
-  pub beyond : drop (l * n) u ≡ drop (l * n) s
+  pub beyond : drop ((k + 1) * n) u ≡ drop ((k + 1) * n) s
 
-pub write-start : (n l : ℕ) (s bytes : List ℕ) (k : ℕ) → Writing n l s s bytes k 0
-write-start n l s bytes k = record { upto = omega arith; len = refl; new = λ v lt. absurd (omega arith); old = λ m v hm hv. refl; beyond = refl }
+pub write-start : (n : ℕ) (s bytes : List ℕ) (k : ℕ) → Writing n s s bytes k 0
+write-start n s bytes k = record { upto = omega arith; len = refl; new = λ v lt. absurd (omega arith); old = λ m v hm hv. refl; beyond = refl }
 
-pub write-step : {n l : ℕ} {s u bytes : List ℕ} {k j b : ℕ} → Frame n l s → k < l → j < n → b ≡ getD bytes j 0 → Writing n l s u bytes k j → Writing n l s (set u (k * n + j) b) bytes k (j + 1)
-write-step {n} {l} {s} {u} {bytes} {k} {j} {b} f hk hj eb g = record {
+pub write-step : {n : ℕ} {s u bytes : List ℕ} {k j b : ℕ} → Slot n s k → j < n → b ≡ getD bytes j 0 → Writing n s u bytes k j → Writing n s (set u (k * n + j) b) bytes k (j + 1)
+write-step {n} {s} {u} {bytes} {k} {j} {b} f hj eb g = record {
   upto = omega arith;
   len = length-set u (k * n + j) b ∙ g .len;
   new = below-more (λ (v : ℕ). cell n (set u (k * n + j) b) k v ≡ getD bytes v 0) j
       (λ v hv. set-col n u k j b hj k v (omega arith) (λ e. omega arith) ∙ g .new v hv)
-      (set-here n u k j b hj (omega (arith, digits-lt hk hj, f .cells, g .len)) ∙ eb);
+      (set-here n u k j b hj (omega (arith, f .cells, g .len)) ∙ eb);
   old = λ m v hm hv. set-row n u k j b hj m v hv (λ e. omega arith) ∙ g .old m v hm hv;
-  beyond = beyond-kept n l k j b u hk hj ∙ g .beyond;
+  beyond = beyond-kept n (k + 1) k j b u (omega arith) hj ∙ g .beyond;
 }
 
-pub write-end : {n l : ℕ} {s u bytes : List ℕ} {k j : ℕ} → Writing n l s u bytes k j → n ≤ j → Wrote n l s u bytes k (k + 1)
+pub write-end : {n : ℕ} {s u bytes : List ℕ} {k j : ℕ} → Writing n s u bytes k j → n ≤ j → Wrote n s u bytes k (k + 1)
 write-end {k = k} g le = record {
   new = λ m v lo hi hv.
       let e : m ≡ k = omega arith in
@@ -170,22 +169,22 @@ write-end {k = k} g le = record {
 }
 
 -- ---- the slots up to k are written
-pub record Filling (n l : ℕ) (s u bytes : List ℕ) (from to k : ℕ) : Type 0 where
+pub record Filling (n : ℕ) (s u bytes : List ℕ) (from to k : ℕ) : Type 0 where
   pub from-le : from ≤ k
   pub upto : k ≤ to
   pub len : length u ≡ length s
-  pub wrote : Wrote n l s u bytes from k
+  pub wrote : Wrote n s u bytes from k
 
-pub fill-start : (n l : ℕ) (s bytes : List ℕ) (from to : ℕ) → from ≤ to → Filling n l s s bytes from to from
-fill-start n l s bytes from to le = record {
+pub fill-start : (n : ℕ) (s bytes : List ℕ) (from to : ℕ) → from ≤ to → Filling n s s bytes from to from
+fill-start n s bytes from to le = record {
   from-le = omega arith;
   upto = le;
   len = refl;
   wrote = record { new = λ m v lo hi hv. absurd (omega arith); old = λ m v hm hv. refl; beyond = refl };
 }
 
-pub fill-step : {n l : ℕ} {s u w bytes : List ℕ} {from to k : ℕ} → k < to → length w ≡ length u → Filling n l s u bytes from to k → Wrote n l u w bytes k (k + 1) → Filling n l s w bytes from to (k + 1)
-fill-step {k = k} lt e g b = record {
+pub fill-step : {n : ℕ} {s u w bytes : List ℕ} {from to k : ℕ} → k < to → length w ≡ length u → Filling n s u bytes from to k → Wrote n u w bytes k (k + 1) → Filling n s w bytes from to (k + 1)
+fill-step {n = n} {s = s} {u = u} {k = k} lt e g b = record {
   from-le = omega (arith, g .from-le);
   upto = omega arith;
   len = e ∙ g .len;
@@ -194,9 +193,9 @@ fill-step {k = k} lt e g b = record {
         (λ less. b .old m v less hv ∙ g .wrote .new m v lo less hv)
         (λ ge. b .new m v ge hi hv);
     old = λ m v hm hv. b .old m v (omega (arith, g .from-le)) hv ∙ g .wrote .old m v hm hv;
-    beyond = b .beyond ∙ g .wrote .beyond;
+    beyond = b .beyond ∙ beyond-more n k (k + 1) u s (omega arith) (g .wrote .beyond);
   };
 }
 
-pub fill-end : {n l : ℕ} {s u bytes : List ℕ} {from to k : ℕ} → Filling n l s u bytes from to k → to ≤ k → Wrote n l s u bytes from to
+pub fill-end : {n : ℕ} {s u bytes : List ℕ} {from to k : ℕ} → Filling n s u bytes from to k → to ≤ k → Wrote n s u bytes from to
 fill-end {to = to} {k = k} g le = let e : k ≡ to = omega (arith, g .upto) in rw e at (g .wrote)

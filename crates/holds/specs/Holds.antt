@@ -53,11 +53,11 @@ pub record CanTake (n : ℕ) (x source : List ℕ) (h : ℕ) : Type 0 where
 pub record Taken (n : ℕ) (x y source : List ℕ) (h : ℕ) : Type 0 where
   pub less : (i j : ℕ) → i < n → j < n → cell n y i j + h * hit (getD source j 0) i ≡ cell n x i j
 
--- the slots from `from` up to `to` hold the bytes, those before are as they were, and so are the bytes beyond the frame
-pub record Wrote (n l : ℕ) (s u bytes : List ℕ) (from to : ℕ) : Type 0 where
+-- the slots from `from` up to `to` hold the bytes, those before are as they were, and so is what comes after
+pub record Wrote (n : ℕ) (s u bytes : List ℕ) (from to : ℕ) : Type 0 where
   pub new : (k j : ℕ) → from ≤ k → k < to → j < n → cell n u k j ≡ getD bytes j 0
   pub old : (k j : ℕ) → k < from → j < n → cell n u k j ≡ cell n s k j
-  pub beyond : drop (l * n) u ≡ drop (l * n) s
+  pub beyond : drop (to * n) u ≡ drop (to * n) s
 
 -- kept is placed up to slot t of r: each line of padded has the slots that are left, and what is counted and what is due make kept
 pub record Placed (n r t : ℕ) (kept padded due schedule : List ℕ) : Type 0 where
@@ -66,27 +66,21 @@ pub record Placed (n r t : ℕ) (kept padded due schedule : List ℕ) : Type 0 w
   pub counts : (i j : ℕ) → i < n → j < n → count n t schedule i j + cell n due i j ≡ cell n kept i j
   pub free : ConflictFree n t schedule
 
--- the tables and lists are long enough
-pub record Rooms (n l : ℕ) (padded due source bytes schedule : List ℕ) : Type 0 where
+pub record CanHold (n : ℕ) (padded due source schedule : List ℕ) (t most : ℕ) : Type 0 where
   pub table : Square n padded
   pub table-due : Square n due
-  pub frame : Frame n l schedule
+  pub frame : Frame n (t + most) schedule
   pub sources : n ≤ length source
-  pub outs : n ≤ length bytes
-
-pub record CanHold (n l : ℕ) (padded due source bytes schedule : List ℕ) (t most : ℕ) : Type 0 where
-  pub rooms : Rooms n l padded due source bytes schedule
   pub full : (j : ℕ) → j < n → getD source j 0 < n
   pub once : (i : ℕ) → i < n → taken n source i ≡ 1
   pub gets : (j : ℕ) → j < n → 1 ≤ cell n padded (getD source j 0) j
   pub below : (i j : ℕ) → i < n → j < n → cell n due i j ≤ cell n padded i j
   pub some : 1 ≤ most
-  pub fits : t + most ≤ l
 
 -- the pairing is held for h slots: whatever was placed up to slot t is placed up to t + h
-pub record Holds (n l : ℕ) (padded due source schedule padded' due' schedule' : List ℕ) (t most h : ℕ) : Type 0 where
+pub record Holds (n : ℕ) (padded due source schedule padded' due' schedule' : List ℕ) (t most h : ℕ) : Type 0 where
   pub some : 1 ≤ h
   pub within : h ≤ most
   pub less : Taken n padded padded' source h
   pub placed : (kept : List ℕ) (r : ℕ) → Placed n r t kept padded due schedule → Placed n r (t + h) kept padded' due' schedule'
-  pub beyond : drop (l * n) schedule' ≡ drop (l * n) schedule
+  pub beyond : drop ((t + h) * n) schedule' ≡ drop ((t + h) * n) schedule

@@ -57,11 +57,10 @@ pub record PaddedAll (n : ℕ) (v v' lack : List ℕ) : Type 0 where
   pub lines : (r : ℕ) → Lacks n v lack r → (ℓ : ℕ) → ℓ < 2 * n → lineSum n v' ℓ ≡ r
   pub cells : (i j : ℕ) → i < n → j < n → cell n v i j ≤ cell n v' i j
 
-pub record CanFill (n : ℕ) (kept padded lack : List ℕ) : Type 0 where
+pub record CanFill (n : ℕ) (kept padded : List ℕ) : Type 0 where
   pub square : Square n kept
   pub small : Small n kept
   pub table : Square n padded
-  pub lines : 2 * n ≤ length lack
 
 -- the matrix with idle slots: every line sums to r, the matrix's largest line sum
 pub record Padded (n : ℕ) (kept padded : List ℕ) (r : ℕ) : Type 0 where

@@ -109,9 +109,10 @@ fn pad_all(n: usize, padded: &mut [u16], lack: &mut [u16])
     }
 }
 
-// The table holds the matrix with idle slots, so that every line sums to the answer: the matrix's largest line sum.
-pub fn pad(n: usize, kept: &[u32], padded: &mut [u16], lack: &mut [u16]) -> u32
-    requires { ⌜ CanFill n (now kept) (now padded) (now lack) ⌝ }
+// Pads the matrix, with a list to work in for what the lines lack.
+fn pad_with(n: usize, kept: &[u32], padded: &mut [u16], lack: &mut [u16]) -> u32
+    requires { ⌜ CanFill n (now kept) (now padded) ⌝ }
+    requires { ⌜ 2 * n ≤ length (now lack) ⌝ }
     ensures { λ r. ⌜ Padded n (now (kept .entry)) (now (padded .exit)) r ⌝ }
 {
     copy(n, kept, padded);
@@ -120,4 +121,13 @@ pub fn pad(n: usize, kept: &[u32], padded: &mut [u16], lack: &mut [u16]) -> u32
     lacks(n, lack, r);
     pad_all(n, padded, lack);
     r
+}
+
+// The table holds the matrix with idle slots, so that every line sums to the answer: the matrix's largest line sum.
+pub fn pad(n: usize, kept: &[u32], padded: &mut [u16]) -> u32
+    requires { ⌜ CanFill n (now kept) (now padded) ⌝ }
+    ensures { λ r. ⌜ Padded n (now (kept .entry)) (now (padded .exit)) r ⌝ }
+{
+    let mut lack = [0u16; 128];
+    pad_with(n, kept, padded, &mut lack)
 }

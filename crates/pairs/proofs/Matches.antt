@@ -87,13 +87,13 @@ pub record Working (n : ℕ) (may source0 destination0 next0 source destination 
   pub next-len : length next ≡ length next0
 
 module _ {n : ℕ} {may source0 destination0 next0 source destination next : List ℕ} {sources destinations : ℕ}
-    (c : CanMatch n may source0 destination0 next0) (g : Working n may source0 destination0 next0 source destination next sources destinations) where
+    (c : CanMatch n may source0 destination0) (fits : n ≤ length next0) (g : Working n may source0 destination0 next0 source destination next sources destinations) where
   pub work-search : {j : ℕ} → Ready n may sources destinations j → n ≤ j → CanSearch n may destination next sources destinations
   work-search r le = record {
     nodes = c .rooms .nodes;
     mays = c .rooms .mays;
     lists = omega (arith, c .rooms .destinations, g .destination-len);
-    nexts = omega (arith, c .rooms .nexts, g .next-len);
+    nexts = omega (arith, fits, g .next-len);
     free = g .free-sources;
     once = λ i k hi hk lt e. sym (g .paired .forth i hi lt) ∙ ap (λ (x : ℕ). getD source x 0) e ∙ g .paired .forth k hk (omega arith);
     apart = λ i hi lt.
@@ -111,7 +111,7 @@ module _ {n : ℕ} {may source0 destination0 next0 source destination next : Lis
     nodes = c .rooms .nodes;
     sources = omega (arith, c .rooms .sources, g .source-len);
     destinations = omega (arith, c .rooms .destinations, g .destination-len);
-    nexts = omega (arith, c .rooms .nexts, g .next-len);
+    nexts = omega (arith, fits, g .next-len);
     within = lt;
     paired = g .paired;
     way = s .found lt;

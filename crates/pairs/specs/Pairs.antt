@@ -38,15 +38,14 @@ pub record Stuck (n : ℕ) (may source : List ℕ) : Type 0 where
   pub free : 1 ≤ taken n source n
 
 -- the lists are long enough
-pub record Rooms (n : ℕ) (may source destination next : List ℕ) : Type 0 where
+pub record Rooms (n : ℕ) (may source destination : List ℕ) : Type 0 where
   pub nodes : n ≤ 64
   pub mays : n ≤ length may
   pub sources : n ≤ length source
   pub destinations : n ≤ length destination
-  pub nexts : n ≤ length next
 
-pub record CanMatch (n : ℕ) (may source destination next : List ℕ) : Type 0 where
-  pub rooms : Rooms n may source destination next
+pub record CanMatch (n : ℕ) (may source destination : List ℕ) : Type 0 where
+  pub rooms : Rooms n may source destination
   pub paired : Paired n may source destination
 
 -- all are paired, or not all can be

@@ -2,12 +2,14 @@
 use crate::search;
 use crate::flip;
 use arrays::lists;
-ghost use Prim.Native.Nat.{ℕ, _<_, _≤_};
+ghost use Prim.Native.Nat.{_≤_};
+ghost use lib.ListN.{length};
 ghost use Rattle.pairs.specs.Pairs.{CanMatch, Matched};
 
-// Pairs all destinations, from the pairs there are; false where not all can be paired.
-pub fn match_all(n: usize, may: &[u64], source: &mut [u8], destination: &mut [u8], next: &mut [u8]) -> bool
-    requires { ⌜ CanMatch n (now may) (now source) (now destination) (now next) ⌝ }
+// Pairs all destinations, with a list to work in for the ways that are found.
+fn match_with(n: usize, may: &[u64], source: &mut [u8], destination: &mut [u8], next: &mut [u8]) -> bool
+    requires { ⌜ CanMatch n (now may) (now source) (now destination) ⌝ }
+    requires { ⌜ n ≤ length (now next) ⌝ }
     ensures { λ r. ⌜ Matched n (now (may .entry)) (now (source .exit)) (now (destination .exit)) r ⌝ }
 {
     let mut destinations = search::free(n, source);
@@ -33,4 +35,13 @@ pub fn match_all(n: usize, may: &[u64], source: &mut [u8], destination: &mut [u8
         sources = nodes::without(sources, r);
         destinations = nodes::without(destinations, e);
     }
+}
+
+// Pairs all destinations, from the pairs there are; false where not all can be paired.
+pub fn match_all(n: usize, may: &[u64], source: &mut [u8], destination: &mut [u8]) -> bool
+    requires { ⌜ CanMatch n (now may) (now source) (now destination) ⌝ }
+    ensures { λ r. ⌜ Matched n (now (may .entry)) (now (source .exit)) (now (destination .exit)) r ⌝ }
+{
+    let mut next = [0u8; 64];
+    match_with(n, may, source, destination, &mut next)
 }

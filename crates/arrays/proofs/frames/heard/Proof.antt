@@ -1,6 +1,5 @@
 use Rattle.sums.specs.Tables.{cell}
 use borrow.Author.Needs.{needs}
-use lib.Arith.{digits-lt}
 use native.Mathlib.Omega.{arith}
 use Rattle.arrays.proofs.frames.heard.Statement.{statement}
 use Rattle.arrays.proofs.frames.heard.Tie as tie
@@ -9,15 +8,15 @@ use Rattle.arrays.proofs.frames.heard.Lts as lts
 
 -- src/frames.rt:14:14
 mul-result : tie.Need-mul-result
-mul-result c = omega (arith, c .pre .0 .cells, digits-lt (c .pre .1 .0) (c .pre .1 .1))
+mul-result c = omega (arith, c .pre .0 .cells)
 
 -- src/frames.rt:14:14
 add-result : tie.Need-add-result
-add-result c = omega (arith, c .pre .0 .cells, digits-lt (c .pre .1 .0) (c .pre .1 .1))
+add-result c = omega (arith, c .pre .0 .cells)
 
 -- src/frames.rt:14:5
 shared-slice-read-result : tie.Need-shared-slice-read-result
-shared-slice-read-result c = omega (arith, c .before .pre .0 .cells, digits-lt (c .before .pre .1 .0) (c .before .pre .1 .1))
+shared-slice-read-result c = omega (arith, c .before .pre .0 .cells)
 
 -- src/frames.rt:9:1
 returns : tie.Need-returns

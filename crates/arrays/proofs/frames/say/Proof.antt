@@ -1,4 +1,3 @@
-use lib.Arith.{digits-lt}
 use native.Mathlib.Omega.{arith}
 use borrow.Author.Needs.{needs}
 use Rattle.arrays.proofs.frames.say.Statement.{statement}
@@ -12,15 +11,15 @@ cast-schedule c = search needs
 
 -- src/frames.rt:23:14
 mul-schedule : tie.Need-mul-schedule
-mul-schedule c = omega (arith, c .pre .0 .cells, digits-lt (c .pre .1 .0) (c .pre .1 .1))
+mul-schedule c = omega (arith, c .pre .0 .cells)
 
 -- src/frames.rt:23:14
 add-schedule : tie.Need-add-schedule
-add-schedule c = omega (arith, c .pre .0 .cells, digits-lt (c .pre .1 .0) (c .pre .1 .1))
+add-schedule c = omega (arith, c .pre .0 .cells)
 
 -- src/frames.rt:23:5
 slice-write-schedule : tie.Need-slice-write-schedule
-slice-write-schedule c = omega (arith, c .pre .0 .cells, digits-lt (c .pre .1 .0) (c .pre .1 .1))
+slice-write-schedule c = omega (arith, c .pre .0 .cells)
 
 -- src/frames.rt:18:1
 same-length : tie.Need-same-length
