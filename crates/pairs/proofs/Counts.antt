@@ -88,7 +88,7 @@ sum-ones zero = refl
 sum-ones (suc k) = omega (arith, sum-ones k)
 
 -- at most one number is x
-sum-hit-most : (n x : ℕ) → sumTo n (λ a. hit x a) ≤ 1
+pub sum-hit-most : (n x : ℕ) → sumTo n (λ a. hit x a) ≤ 1
 sum-hit-most n x =
     by-lt x n
     (λ lt. omega (arith, sum-hit n x lt))
