@@ -25,9 +25,9 @@ pub record Same (n : ℕ) (one : List ℕ) (k : ℕ) (other : List ℕ) (m j : �
 pub same-more : {n : ℕ} {one : List ℕ} {k : ℕ} {other : List ℕ} {m j : ℕ} → Same n one k other m j → j < n → cell n one k j ≡ cell n other m j → Same n one k other m (j + 1)
 same-more {n} {one} {k} {other} {m} {j} g lt e = record { upto = omega arith; all = below-more (λ (u : ℕ). cell n one k u ≡ cell n other m u) j (g .all) e }
 
-pub differ-at : {n : ℕ} {one : List ℕ} {k : ℕ} {other : List ℕ} {m : ℕ} (j : ℕ) → j < n → (cell n one k j ≡ cell n other m j → ⊥) → true ≡ slotsDiffer n one k other m
+pub differ-at : (n : ℕ) (one : List ℕ) (k : ℕ) (other : List ℕ) (m j : ℕ) → j < n → (cell n one k j ≡ cell n other m j → ⊥) → true ≡ slotsDiffer n one k other m
 unfolding slotsDiffer
-differ-at {n} {one} {k} {other} {m} j lt ne = sym (some-at (λ u. not (eqb (cell n one k u) (cell n other m u))) n j lt (ap not (ne-eqb (cell n one k j) (cell n other m j) ne)))
+differ-at n one k other m j lt ne = sym (some-at (λ u. not (eqb (cell n one k u) (cell n other m u))) n j lt (ap not (ne-eqb (cell n one k j) (cell n other m j) ne)))
 
 pub differ-none : {n : ℕ} {one : List ℕ} {k : ℕ} {other : List ℕ} {m j : ℕ} → Same n one k other m j → n ≤ j → false ≡ slotsDiffer n one k other m
 unfolding slotsDiffer

@@ -25,6 +25,9 @@ use Rattle.slots.specs.Levels.{HeardAt, Level}
 use Rattle.slots.specs.Rounds.{CanSettle, CanRound, Rounded}
 use Rattle.slots.specs.Places.{CanPlace, Places}
 
+pub rooms-kept : {n : ℕ} {may may' source destination : List ℕ} → length may' ≡ length may → Rooms n may source destination → Rooms n may' source destination
+rooms-kept e h = record { nodes = h .nodes; mays = omega (arith, h .mays); sources = h .sources; destinations = h .destinations }
+
 -- before a round
 pub record Rounding (n r : ℕ) (padded0 due0 may0 source0 destination0 schedule0 padded due may source destination schedule : List ℕ) (level t : ℕ) : Type 0 where
   pub padded-len : length padded ≡ length padded0
