@@ -3,6 +3,9 @@
 ghost use mathlib.Core.Path.{_≡_};
 ghost use Prim.Native.Nat.{_*_};
 ghost use Rattle.sums.specs.Tables.{written};
+ghost use Rattle.star.specs.Schedules.{reconfigurations};
+ghost use Rattle.arrays.specs.Arrays.{Frame};
+ghost use Rattle.slots.specs.Places.{CanPlace, Places};
 ghost use Rattle.fair.specs.Fair.{fairKept};
 ghost use Rattle.fair.specs.Cuts.{CanCut};
 ghost use Rattle.flow.specs.Certified.{Bounded, Certified};
@@ -61,4 +64,22 @@ pub extern "C" fn lab_keep(
     ensures { λ _. ⌜ now (kept .exit) ≡ written (n * n) (keptFrom n (now (cap .entry)) (now (demand .entry)) (now (withdrawn .entry))) (now (kept .entry)) ⌝ }
 {
     least::kept::keep(n, cap, demand, withdrawn, kept);
+}
+
+// `slots::placing::place`.
+#[no_mangle]
+pub extern "C" fn lab_place(n: usize, l: usize, kept: &[u32], schedule: &mut [u8])
+    requires { ⌜ CanPlace n l (now kept) (now schedule) ⌝ }
+    ensures { λ _. ⌜ Places n l (now (kept .entry)) (now (schedule .entry)) (now (schedule .exit)) ⌝ }
+{
+    slots::placing::place(n, l, kept, schedule);
+}
+
+// `slots::changes::reconfigurations`.
+#[no_mangle]
+pub extern "C" fn lab_reconfigurations(n: usize, l: usize, schedule: &[u8]) -> u32
+    requires { ⌜ Frame n l (now schedule) ⌝ }
+    ensures { λ r. ⌜ r ≡ reconfigurations n l (now (schedule .entry)) ⌝ }
+{
+    slots::changes::reconfigurations(n, l, schedule)
 }
