@@ -108,6 +108,29 @@ pub unsafe fn keep(
     }
 }
 
+/// A schedule of L slots that gives each pair exactly its kept slots and holds 255 elsewhere.
+pub fn place(n: usize, slots: usize, kept: &[u32], schedule: &mut [u8]) {
+    ask_cells(n, kept);
+    ask_frame(n, slots, schedule);
+    ask_admissible(n, slots, kept);
+    unsafe {
+        raw::lab_place(
+            n,
+            slots,
+            kept.as_ptr(),
+            kept.len(),
+            schedule.as_mut_ptr(),
+            schedule.len(),
+        );
+    }
+}
+
+/// The number of k from 0 to L−2 at which slot k and slot k+1 differ for some destination.
+pub fn reconfigurations(n: usize, slots: usize, schedule: &[u8]) -> u32 {
+    ask_frame(n, slots, schedule);
+    unsafe { raw::lab_reconfigurations(n, slots, schedule.as_ptr(), schedule.len()) }
+}
+
 /// Up to 64 nodes, and a cell for each pair.
 #[track_caller]
 fn ask_cells(n: usize, table: &[u32]) {
@@ -134,30 +157,51 @@ fn ask_capacities(n: usize, capacity: &[u32]) {
     assert!(most <= Some(&1_024), "a capacity is above 1,024");
 }
 
+#[track_caller]
+fn ask_frame(n: usize, slots: usize, schedule: &[u8]) {
+    assert!(n <= 64, "{n} nodes");
+    assert!(slots <= 1_024, "{slots} slots");
+    assert!(schedule.len() >= slots * n, "a schedule lacks slots");
+}
+
+#[track_caller]
+fn ask_admissible(n: usize, slots: usize, kept: &[u32]) {
+    let mut sums = [0; 128];
+    for (cell, &v) in kept[..n * n].iter().enumerate() {
+        sums[cell / n] += u64::from(v);
+        sums[n + cell % n] += u64::from(v);
+    }
+    let most = sums.into_iter().max();
+    assert!(most <= Some(slots as u64), "a line is above L");
+}
+
 #[cfg(test)]
 mod tests {
     use std::panic::{AssertUnwindSafe, catch_unwind};
 
-    /// What the layers are called with: a limit for each line is its capacity, and what is kept
-    /// follows from `withdrawn`.
+    /// What the layers are called with; the limits of `largest` are the capacities.
     struct Tables {
         n: usize,
+        slots: usize,
         capacity: Vec<u32>,
         demand: Vec<u32>,
         withdrawn: Vec<u32>,
         marks: Vec<u8>,
         kept: Vec<u32>,
+        schedule: Vec<u8>,
     }
 
     /// Document 01, case e.
     fn tables() -> Tables {
         Tables {
             n: 2,
+            slots: 4,
             capacity: vec![4; 4],
             demand: vec![3, 3, 3, 0],
             withdrawn: vec![2, 0, 0, 0],
             marks: vec![0; 4],
-            kept: vec![0; 4],
+            kept: vec![1, 3, 3, 0],
+            schedule: vec![0; 8],
         }
     }
 
@@ -178,13 +222,27 @@ mod tests {
         unsafe { super::keep(t.n, &t.capacity, &t.demand, &t.withdrawn, &mut t.kept) };
     }
 
+    fn place(t: &mut Tables) {
+        super::place(t.n, t.slots, &t.kept, &mut t.schedule);
+    }
+
+    fn reconfigurations(t: &mut Tables) {
+        super::reconfigurations(t.n, t.slots, &t.schedule);
+    }
+
     #[test]
     fn case_e() {
         let mut t = tables();
+        t.kept.fill(0);
         withdraw(&mut t);
         assert_eq!(t.withdrawn, [2, 0, 0, 0]);
         keep(&mut t);
         assert_eq!(t.kept, [1, 3, 3, 0]);
+        place(&mut t);
+        let mut slots: Vec<&[u8]> = t.schedule.chunks(2).collect();
+        slots.sort_unstable();
+        assert_eq!(slots, [[0, 255], [1, 0], [1, 0], [1, 0]]);
+        assert_eq!(super::reconfigurations(2, 4, &t.schedule), 1);
         fair_cut(&mut t);
         assert_eq!(t.kept, [2, 2, 2, 0]);
         largest(&mut t);
@@ -194,23 +252,28 @@ mod tests {
     #[test]
     fn a_call_without_what_is_asked_panics() {
         type Fault = fn(&mut Tables);
-        let calls = [fair_cut, largest, withdraw, keep];
-        let faults: [(Fault, [bool; 4]); 9] = [
-            (|_| (), [false, false, false, false]),
-            (|t| t.n = 65, [true, true, true, true]),
-            (|t| t.demand.truncate(3), [true, true, true, true]),
-            (|t| t.demand[3] = 65_536, [true, true, true, true]),
-            (|t| t.capacity.truncate(3), [true, true, true, true]),
-            (|t| t.capacity[3] = 1_025, [true, false, true, true]),
-            (|t| t.withdrawn.truncate(3), [false, true, true, true]),
-            (|t| t.marks.truncate(3), [false, true, true, false]),
-            (|t| t.kept.truncate(3), [true, false, false, true]),
+        let calls = [fair_cut, largest, withdraw, keep, place, reconfigurations];
+        let faults: [(Fault, [u8; 6]); 14] = [
+            (|_| (), [0, 0, 0, 0, 0, 0]),
+            (|t| t.n = 65, [1, 1, 1, 1, 1, 1]),
+            (|t| t.demand.truncate(3), [1, 1, 1, 1, 0, 0]),
+            (|t| t.demand[3] = 65_536, [1, 1, 1, 1, 0, 0]),
+            (|t| t.capacity.truncate(3), [1, 1, 1, 1, 0, 0]),
+            (|t| t.capacity[3] = 1_025, [1, 0, 1, 1, 0, 0]),
+            (|t| t.withdrawn.truncate(3), [0, 1, 1, 1, 0, 0]),
+            (|t| t.marks.truncate(3), [0, 1, 1, 0, 0, 0]),
+            (|t| t.kept.truncate(3), [1, 0, 0, 1, 1, 0]),
+            (|t| t.slots = 1_025, [0, 0, 0, 0, 1, 1]),
+            (|t| t.schedule.truncate(7), [0, 0, 0, 0, 1, 1]),
+            (|t| t.kept = vec![2, 3, 0, 0], [0, 0, 0, 0, 1, 0]),
+            (|t| t.kept = vec![2, 0, 3, 0], [0, 0, 0, 0, 1, 0]),
+            (|t| t.kept = vec![u32::MAX; 4], [0, 0, 0, 0, 1, 0]),
         ];
         for (fault, panics) in faults {
             let panicked = calls.map(|call| {
                 let mut t = tables();
                 fault(&mut t);
-                catch_unwind(AssertUnwindSafe(|| call(&mut t))).is_err()
+                u8::from(catch_unwind(AssertUnwindSafe(|| call(&mut t))).is_err())
             });
             assert_eq!(panicked, panics);
         }

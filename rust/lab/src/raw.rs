@@ -46,4 +46,20 @@ unsafe extern "C" {
         kept: *mut u32,
         kept_length: usize,
     );
+
+    pub fn lab_place(
+        n: usize,
+        l: usize,
+        kept: *const u32,
+        kept_length: usize,
+        schedule: *mut u8,
+        schedule_length: usize,
+    );
+
+    pub fn lab_reconfigurations(
+        n: usize,
+        l: usize,
+        schedule: *const u8,
+        schedule_length: usize,
+    ) -> u32;
 }
