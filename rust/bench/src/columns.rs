@@ -133,7 +133,7 @@ pub const SECOND: [Column; 5] = [
     }),
 ];
 
-type Count = fn(&Work) -> usize;
+pub type Count = fn(&Work) -> usize;
 
 /// Reconfigurations of the library's schedules.
 pub const CHANGES: [(&str, Count); 4] = [

@@ -12,20 +12,21 @@ impl Figures {
         sorted.sort_by(f64::total_cmp);
         Figures {
             median: sorted[sorted.len() / 2],
-            worst: sorted[sorted.len() - 1],
+            worst: *sorted.last().expect("something was measured"),
         }
     }
 }
 
 pub fn print_header<'a>(rows: &str, columns: impl Iterator<Item = &'a str>) {
-    let columns: String = columns.map(|title| format!("{title:>17}")).collect();
+    let columns: String = columns.map(|title| format!("{title:>20}")).collect();
     println!("{rows:<14}{columns}");
 }
 
-pub fn print_row(name: &str, figures: impl Iterator<Item = Figures>) {
+/// With as many decimals for every figure.
+pub fn print_row(name: &str, figures: impl Iterator<Item = Figures>, decimals: usize) {
     print!("{name:<14}");
     for Figures { median, worst } in figures {
-        print!("{median:>9.0}{worst:>8.0}");
+        print!("{median:>10.decimals$}{worst:>10.decimals$}");
     }
     println!();
 }

@@ -1,23 +1,26 @@
 //! How long the proved planner takes, layer by layer, and beside it the second program.
 //!
 //! Demands are drawn from a fixed seed. A layer of the library is called five times on the same
-//! tables, which hold what the call before left in them, and the fastest call counts; the second
-//! program is called once. What is printed is the median and the worst over several demands.
+//! tables, which hold what the call before left in them, and the fastest call counts; the test of
+//! what the layer asks is part of the call. The second program is called once. What is printed is
+//! the median and the worst over several demands.
 
 mod columns;
 mod figures;
 
-use columns::{Column, LIBRARY, SECOND, Work};
+use columns::{CHANGES, Column, Count, LIBRARY, SECOND, Work};
 use figures::{Figures, print_header, print_row};
-use second::inputs::{FAMILIES, Random};
+use second::inputs::{FAMILIES, Family, Random};
 
 const SEED: u64 = 1;
 
 /// How many demands of each family.
-const DEMANDS: usize = 12;
+const DEMANDS: usize = 11;
 
 fn main() {
-    println!("seed {SEED}, {DEMANDS} demands of each family; median and worst in microseconds");
+    println!(
+        "seed {SEED}, {DEMANDS} demands of each family; median and worst, times in microseconds"
+    );
     by_family(64, 1_024);
     by_size();
 }
@@ -25,27 +28,19 @@ fn main() {
 /// One table for the library, one for the second program, one for the reconfigurations.
 fn by_family(n: usize, slots: u32) {
     let mut random = Random::seeded(SEED);
-    let mut rows: Vec<(&str, Vec<Work>)> = FAMILIES
-        .map(|(name, family)| {
-            let work = |_| Work::new(n, slots, family(&mut random, n, slots));
-            (name, (0..DEMANDS).map(work).collect())
-        })
-        .into();
+    let mut rows = FAMILIES.map(|(name, family)| (name, works(&mut random, family, n, slots)));
     for (title, columns) in [("library", &LIBRARY[..]), ("second program", &SECOND[..])] {
         println!("\nN {n}, L {slots}: {title}");
         print_header("family", columns.iter().map(|column| column.title));
-        for (name, work) in &mut rows {
-            print_row(name, columns.iter().map(|column| timed(column, work)));
+        for (name, works) in &mut rows {
+            print_row(name, columns.iter().map(|column| timed(column, works)), 1);
         }
     }
     println!("\nN {n}, L {slots}: reconfigurations, and the fewest that any schedule could have");
-    print_header("family", columns::CHANGES.iter().map(|&(title, _)| title));
-    for (name, work) in &rows {
-        let figures = columns::CHANGES.iter().map(|(_, count)| {
-            let counts = work.iter().map(|work| count(work) as f64);
-            Figures::of(counts)
-        });
-        print_row(name, figures);
+    print_header("family", CHANGES.iter().map(|&(title, _)| title));
+    for (name, works) in &rows {
+        let counted = |count: Count| Figures::of(works.iter().map(|work| count(work) as f64));
+        print_row(name, CHANGES.iter().map(|&(_, count)| counted(count)), 0);
     }
 }
 
@@ -56,15 +51,19 @@ fn by_size() {
     for n in [8, 16, 32, 64] {
         for slots in [64, 256, 1_024] {
             let mut random = Random::seeded(SEED);
-            let mut work: Vec<Work> = FAMILIES
-                .map(|(_, family)| Work::new(n, slots, family(&mut random, n, slots)))
-                .into();
-            let size = format!("{n}, {slots}");
-            print_row(&size, LIBRARY.iter().map(|column| timed(column, &mut work)));
+            let works = FAMILIES.map(|(_, family)| works(&mut random, family, n, slots));
+            let mut works = works.into_iter().flatten().collect::<Vec<_>>();
+            let times = LIBRARY.iter().map(|column| timed(column, &mut works));
+            print_row(&format!("{n}, {slots}"), times, 1);
         }
     }
 }
 
-fn timed(column: &Column, work: &mut [Work]) -> Figures {
-    Figures::of(work.iter_mut().map(|work| column.microseconds(work)))
+fn works(random: &mut Random, family: Family, n: usize, slots: u32) -> Vec<Work> {
+    let work = |_| Work::new(n, slots, family(random, n, slots));
+    (0..DEMANDS).map(work).collect()
+}
+
+fn timed(column: &Column, works: &mut [Work]) -> Figures {
+    Figures::of(works.iter_mut().map(|work| column.microseconds(work)))
 }

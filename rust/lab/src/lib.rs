@@ -166,13 +166,17 @@ fn ask_frame(n: usize, slots: usize, schedule: &[u8]) {
 
 #[track_caller]
 fn ask_admissible(n: usize, slots: usize, kept: &[u32]) {
-    let mut sums = [0; 128];
-    for (cell, &v) in kept[..n * n].iter().enumerate() {
-        sums[cell / n] += u64::from(v);
-        sums[n + cell % n] += u64::from(v);
+    let mut columns = [0; 64];
+    for i in 0..n {
+        let row = &kept[i * n..][..n];
+        let sum: u64 = row.iter().map(|&v| u64::from(v)).sum();
+        assert!(sum <= slots as u64, "a row is above L");
+        for (column, &v) in columns.iter_mut().zip(row) {
+            *column += u64::from(v);
+        }
     }
-    let most = sums.into_iter().max();
-    assert!(most <= Some(slots as u64), "a line is above L");
+    let most = columns.into_iter().max();
+    assert!(most <= Some(slots as u64), "a column is above L");
 }
 
 #[cfg(test)]

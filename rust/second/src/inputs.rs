@@ -99,10 +99,10 @@ pub const FAMILIES: [(&str, Family); 17] = [
     ("uniform", |random, n, slots| {
         cells(n, |_, _| random.up_to(share(n, slots)))
     }),
-    ("light", |random, n, slots| {
+    ("half load", |random, n, slots| {
         cells(n, |_, _| random.up_to(share(n, slots) / 2))
     }),
-    ("heavy", |random, n, slots| {
+    ("double load", |random, n, slots| {
         cells(n, |_, _| random.up_to(2 * share(n, slots)))
     }),
     ("sparse", |random, n, slots| {
