@@ -1,9 +1,9 @@
--- `crossing` gives the line that crosses: by the cases row and column. Assumes nothing.
-use Rattle.fair.proofs.Crossings.{crossing-row, crossing-column}
+-- `star::lines::crossing` meets its contract: by the cases row and column. Assumes nothing.
+use Rattle.star.proofs.CrossingLaws.{crossing-row, crossing-column}
 use mathlib.Core.Path.{sym}
 use borrow.Author.Needs.{needs}
-use Rattle.fair.proofs.line.crossing.Statement.{statement}
-use Rattle.fair.proofs.line.crossing.Tie as tie
+use Rattle.star.proofs.lines.crossing.Statement.{statement}
+use Rattle.star.proofs.lines.crossing.Tie as tie
 
 add-result : tie.Need-add-result
 add-result c = search needs

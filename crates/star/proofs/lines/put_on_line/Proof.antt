@@ -1,8 +1,8 @@
--- `put_on_line` stores at a pair of a line: by the cases row and column. Assumes nothing.
-use Rattle.fair.proofs.Crossings.{source-row, source-column, destination-row, destination-column}
+-- `star::lines::put_on_line` meets its contract: by the cases row and column. Assumes nothing.
+use Rattle.star.proofs.CrossingLaws.{source-row, source-column, destination-row, destination-column}
 use borrow.Author.Needs.{needs}
-use Rattle.fair.proofs.line.put_on_line.Statement.{statement}
-use Rattle.fair.proofs.line.put_on_line.Tie as tie
+use Rattle.star.proofs.lines.put_on_line.Statement.{statement}
+use Rattle.star.proofs.lines.put_on_line.Tie as tie
 
 put-requires : tie.Need-put-requires
 put-requires c κs = search needs
