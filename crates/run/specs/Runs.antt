@@ -15,7 +15,7 @@ use Rattle.star.specs.Lines.{wholeFrame}
 use Rattle.planner.specs.declared.answers.Answer.{Answer}
 use Rattle.planner.specs.Plans.{verdictOf, Wrote}
 use Rattle.run.specs.declared.record.Run.{Run}
-use Rattle.run.specs.Books.{firstDisagreeing}
+use Rattle.books.specs.Books.{firstDisagreeing}
 
 -- ---- fresh
 -- any of a run's four tables too short, given how many cells each has
