@@ -1,3 +1,4 @@
 -- What the entries of a run promise.
 pub mod Runs
 pub mod Calls
+pub mod Checks

@@ -1,0 +1,3 @@
+-- The laws of the entries' checks and of their work.
+pub mod Verdicts
+pub mod Outcomes
