@@ -12,7 +12,7 @@ use Rattle.star.specs.declared.refusals.Verdict.the-variants.{Accepted, Refused
 use Rattle.books.specs.Rooms.{Tables, Adds, Arrives, Drops}
 use Rattle.run.specs.declared.record.Run.{Run}
 use Rattle.run.specs.Runs.{freshVerdict, cleared, Freshened, postVerdict, postWaiting, postPosted, postDropped, Posted}
-use Rattle.run.proofs.Verdicts.{PostFits, fresh-accepted}
+use Rattle.run.proofs.Verdicts.{PostFits, fresh-accepted, post-accepted}
 
 -- ---- fresh
 module _ (old : Run) (n l limit rule : ℕ) (waiting posted sent dropped : List ℕ) {v : Verdict}
@@ -64,3 +64,8 @@ module _ {old : Run} {arrivals waiting posted sent dropped : List ℕ} (fits : P
 
   pub post-drops : Drops (old .nodes) arrivals waiting dropped
   post-drops = record { arrives = post-arrives; amounts = fits .tables .drops; few = λ p h. omega (arith, fits .order .books p h) }
+
+-- the count of posts can rise where a post is accepted
+pub post-counted : {old : Run} {arrivals waiting posted sent dropped waiting' posted' dropped' : List ℕ} {v : Verdict} →
+    Posted old arrivals waiting posted sent dropped waiting' posted' dropped' v → v ≡ Accepted → old .posts < 1000000
+post-counted {old} {arrivals} {waiting} {posted} {sent} {dropped} h e = post-accepted old arrivals waiting posted sent dropped (sym (h .answer) ∙ e) .order .few

@@ -85,3 +85,35 @@ pub fn fresh_run(old: Run, v: Verdict, nodes: u32, slots: u32, limit: u32, rule:
         Verdict::Refused { refusal: _ } => old,
     }
 }
+
+// Starts a run: N, L, B and the rule go into the record, both counts and the first N * N cells of the four tables are 0. Refused, in this
+// order: N (1), L (2), the rule (3), B (7), a short table (5); then nothing is written.
+pub fn fresh(
+    run: &mut Run,
+    nodes: u32,
+    slots: u32,
+    limit: u32,
+    rule: u32,
+    waiting: &mut [u32],
+    posted: &mut [u64],
+    sent: &mut [u64],
+    dropped: &mut [u64],
+) -> Verdict
+    ensures { λ v. ⌜ (Freshened (now (run .entry)) nodes slots limit rule (now (waiting .entry)) (now (posted .entry)) (now (sent .entry)) (now (dropped .entry)) (now (waiting .exit)) (now (posted .exit)) (now (sent .exit)) (now (dropped .exit)) v) × (now (run .exit) ≡ freshRun (now (run .entry)) nodes slots limit rule v) ⌝ }
+{
+    let old = *run;
+    let v = fresh_on(
+        old,
+        nodes,
+        slots,
+        limit,
+        rule,
+        waiting,
+        posted,
+        sent,
+        dropped,
+    );
+    let new = fresh_run(old, v, nodes, slots, limit, rule);
+    *run = new;
+    v
+}
