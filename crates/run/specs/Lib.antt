@@ -2,3 +2,4 @@
 pub mod Runs
 pub mod Calls
 pub mod Checks
+pub mod Histories

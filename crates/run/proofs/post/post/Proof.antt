@@ -127,7 +127,7 @@ module _ {M : Type 1} (𝓤 : URA M) (H : Heap 𝓤) (A : Atoms 𝓤) (W : Given
   Was = Is rRun.the-row h (LL.vals rRun.the-type lRun.the-laws h)
 
   abbrev OnSays : Verdict → List ℕ → List ℕ → List ℕ → Type 0
-  OnSays r z1 z2 z4 = Posted h  (now s0) (now s1) (now s2) (now s3) (now s4) z1 z2 z4 r
+  OnSays r z1 z2 z4 = Posted h (now s0) (now s1) (now s2) (now s3) (now s4) z1 z2 z4 r
 
   abbrev AfterSays : Verdict → Run → Type 0
   AfterSays r m = m ≡ postRun h r
