@@ -1,7 +1,7 @@
 -- Least rule (000 Algorithm 2; 001 section 3.2). `n` is N, `cap` has the capacity of each of the 2N lines where document 01 says L.
 use Prim.Native.Nat.{ℕ, _+_, _-_, _*_, _/_, _%_, _≤_, _<_}
 use mathlib.Core.Path.{_≡_}
-use mathlib.Core.Bool.{Bool, false, cond, _&&_, _||_}
+use mathlib.Core.Bool.{Bool, true, false, cond, _&&_, _||_}
 use mathlib.Core.List.{List}
 use lib.ListN.{getD}
 use lib.Dec.{ltb, eqb}
@@ -40,21 +40,24 @@ remainder n cap e ℓ t = onLine n e ℓ t * getD cap ℓ 0 % lineSum n e ℓ
 unfoldable pub missing : (n : ℕ) (cap e : List ℕ) (ℓ : ℕ) → ℕ
 missing n cap e ℓ = getD cap ℓ 0 - sumTo n (λ t. share n cap e ℓ t)
 
--- They go one each to the cells with the largest remainder; equal remainders, the lowest index in the line first: cell u of the line comes before cell t.
-unfoldable pub before : (n : ℕ) (cap e : List ℕ) (ℓ u t : ℕ) → Bool
-before n cap e ℓ u t =
-    ltb (remainder n cap e ℓ t) (remainder n cap e ℓ u)
-    || (eqb (remainder n cap e ℓ u) (remainder n cap e ℓ t) && ltb u t)
+-- They go one each to the cells with the largest remainder; equal remainders, the lowest index in the line first. With r the remainder of
+-- each cell of a line: cell u comes before cell t.
+unfoldable pub before : (r : ℕ → ℕ) (u t : ℕ) → Bool
+before r u t = ltb (r t) (r u) || (eqb (r u) (r t) && ltb u t)
 
 -- how many cells of the line come before cell t
-unfoldable pub rank : (n : ℕ) (cap e : List ℕ) (ℓ t : ℕ) → ℕ
-rank n cap e ℓ t = sumTo n (λ u. bit (before n cap e ℓ u t))
+unfoldable pub rank : (n : ℕ) (r : ℕ → ℕ) (t : ℕ) → ℕ
+rank n r t = sumTo n (λ u. bit (before r u t))
 
 -- what the t-th cell of a line that exceeds L keeps
 unfoldable pub shared : (n : ℕ) (cap e : List ℕ) (ℓ t : ℕ) → ℕ
-shared n cap e ℓ t = share n cap e ℓ t + bit (ltb (rank n cap e ℓ t) (missing n cap e ℓ))
+shared n cap e ℓ t = share n cap e ℓ t + bit (ltb (rank n (remainder n cap e ℓ) t) (missing n cap e ℓ))
 
--- Other cells keep E. Two lines still overflowing in E meet only in a zero cell, so the order of lines is immaterial: here the row is looked at first.
+-- Two lines still overflowing in E meet only in a zero cell ..
+pub record MeetInZero (n : ℕ) (cap e : List ℕ) : Type 0 where
+  pub zero : (i j : ℕ) → i < n → j < n → longer n cap e i ≡ true → longer n cap e (n + j) ≡ true → cell n e i j ≡ 0
+
+-- .. so the order of lines is immaterial: here the row is looked at first. Other cells keep E.
 unfoldable pub keptCell : (n : ℕ) (cap e : List ℕ) (i j : ℕ) → ℕ
 keptCell n cap e i j = cond (longer n cap e i) (shared n cap e i j) (cond (longer n cap e (n + j)) (shared n cap e (n + j) i) (cell n e i j))
 
