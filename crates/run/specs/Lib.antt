@@ -1,4 +1,5 @@
 -- What the entries of a run promise.
+pub mod Books
 pub mod Runs
 pub mod Calls
 pub mod Checks
