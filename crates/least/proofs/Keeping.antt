@@ -23,13 +23,13 @@ use Rattle.least.proofs.Shares.{shared-below, shared-sums-to-capacity}
 
 -- ---- one cell
 module _ (n : ℕ) (cap e : List ℕ) where
-  row-shared-below : (i j : ℕ) → i < n → longer n cap e i ≡ true → shared n cap e i j ≤ cell n e i j
+  pub row-shared-below : (i j : ℕ) → i < n → longer n cap e i ≡ true → shared n cap e i j ≤ cell n e i j
   row-shared-below i j p l = omega (arith, shared-below n cap e i (longer-is n cap e i l) j, on-row n e i j p)
 
-  column-shared-below : (i j : ℕ) → longer n cap e (n + j) ≡ true → shared n cap e (n + j) i ≤ cell n e i j
+  pub column-shared-below : (i j : ℕ) → longer n cap e (n + j) ≡ true → shared n cap e (n + j) i ≤ cell n e i j
   column-shared-below i j l = omega (arith, shared-below n cap e (n + j) (longer-is n cap e (n + j) l) i, in-column n e j i)
 
-  kept-row : (i j : ℕ) → longer n cap e i ≡ true → keptCell n cap e i j ≡ shared n cap e i j
+  pub kept-row : (i j : ℕ) → longer n cap e i ≡ true → keptCell n cap e i j ≡ shared n cap e i j
   unfolding keptCell
   kept-row i j l = rw l refl
 
@@ -37,7 +37,7 @@ module _ (n : ℕ) (cap e : List ℕ) where
   unfolding keptCell
   kept-column-only i j l m = rw (l, m) refl
 
-  kept-other : (i j : ℕ) → longer n cap e i ≡ false → longer n cap e (n + j) ≡ false → keptCell n cap e i j ≡ cell n e i j
+  pub kept-other : (i j : ℕ) → longer n cap e i ≡ false → longer n cap e (n + j) ≡ false → keptCell n cap e i j ≡ cell n e i j
   unfolding keptCell
   kept-other i j l m = rw (l, m) refl
 
@@ -58,7 +58,7 @@ module _ (n : ℕ) (cap e : List ℕ) where
   to-column i j = gate (longer n cap e (n + j)) (cell n e i j - shared n cap e (n + j) i)
 
   module _ (apart : MeetInZero n cap e) where
-    kept-column : (i j : ℕ) → i < n → j < n → longer n cap e (n + j) ≡ true → keptCell n cap e i j ≡ shared n cap e (n + j) i
+    pub kept-column : (i j : ℕ) → i < n → j < n → longer n cap e (n + j) ≡ true → keptCell n cap e i j ≡ shared n cap e (n + j) i
     kept-column i j p q m =
         by-test (longer n cap e i)
         (λ l. omega (arith, kept-cell-below i j p, column-shared-below i j m, apart .zero i j p q l m))

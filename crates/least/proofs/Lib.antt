@@ -8,3 +8,5 @@ pub mod Shares
 pub mod Keeping
 pub mod Counts
 pub mod LeastIsLeast
+pub mod Stores
+pub mod Cutting

@@ -116,3 +116,8 @@ module _ (r : ℕ → ℕ) where
         as-sum x = by-lt x m
             (λ p. rw (lt-ltb x m p) (sym (sum-hit m x p)))
             (λ p. rw (le-ltb x m p) (sym (sum-all-zero m (λ k. hit x k) (λ k q. hit-other (λ e. omega arith)))))
+
+-- ranks depend on the remainders of a line's cells alone
+pub rank-same : (n : ℕ) (r s : ℕ → ℕ) → ((t : ℕ) → t < n → r t ≡ s t) → (t : ℕ) → t < n → rank n r t ≡ rank n s t
+unfolding rank before
+rank-same n r s same t h = sum-ext n _ _ (λ u p. rw (same t h, same u p) refl)

@@ -1,16 +1,16 @@
 -- E, which is D minus a withdrawn A: its cells and sums; what A takes from a line and what E has above the capacity are together the excess;
 -- two lines still too long in E meet only in a zero cell, since A could grow by 1 where they meet. Assumes nothing.
-use Prim.Native.Nat.{ℕ, zero, _+_, _-_, _*_, _≤_, _<_}
+use Prim.Native.Nat.{ℕ, zero, _+_, _-_, _*_, _/_, _%_, _≤_, _<_}
 use native.Mathlib.Omega.{arith}
 use mathlib.Core.Path.{_≡_, refl, sym, _∙_, ap, ap₂}
 use mathlib.Core.Bool.{true, false}
-use mathlib.Core.List.{List}
-use lib.ListN.{getD, length}
+use mathlib.Core.List.{List, _++_, append-nil}
+use lib.ListN.{getD, length, drop, drop-of-length-le}
 use borrow.Author.Tests.{ltb-true, ltb-false}
 use Rattle.sums.specs.Sums.{sumTo, hit}
 use Rattle.sums.specs.Tables.{cell, square, tab}
 use Rattle.sums.proofs.Sums.{sum-ext, sum-add, sum-scale, sum-hit, hit-same, hit-other}
-use Rattle.sums.proofs.Tables.{length-square, square-cell}
+use Rattle.sums.proofs.Tables.{length-square, square-cell, tab-ext, place-split}
 use Rattle.sums.proofs.Cases.{by-eq, by-lt}
 use Rattle.star.specs.Lines.{onLine, sourceOn, destinationOn, lineSum, total, overflows, excess}
 use Rattle.star.proofs.LineLaws.{source-lt, destination-lt, row-sum, column-sum, total-rows, excess-is, overflows-is}
@@ -31,7 +31,25 @@ module _ (n : ℕ) (d a : List ℕ) where
   pub left-below : (i j : ℕ) → i < n → j < n → cell n (left n d a) i j ≤ cell n d i j
   left-below i j p q = omega (arith, left-cell i j p q)
 
+-- the same cell by cell in row order
+pub left-flat : (n : ℕ) (d a : List ℕ) → tab (n * n) (λ p. getD d p 0 - getD a p 0) ≡ left n d a
+unfolding left square cell
+left-flat n d a = tab-ext (n * n) _ _ (λ p h.
+    let at = place-split n p h .1 .1 in
+    ap₂ _-_ (ap (λ x. getD d x 0) (sym at)) (ap (λ x. getD a x 0) (sym at)))
+
+-- E written over a table of as many cells
+pub left-written : (n : ℕ) (d a o : List ℕ) (p : ℕ) → p ≡ n * n → length o ≡ n * n → tab p (λ q. getD d q 0 - getD a q 0) ++ drop p o ≡ left n d a
+left-written n d a o p e h = rw (e, drop-of-length-le o {i = n * n} (omega arith), append-nil) (left-flat n d a)
+
 module _ {n : ℕ} {cap d a : List ℕ} (w : Withdrawn n cap d a) where
+  -- A is nowhere above D, in row order
+  pub withdrawn-below : (p : ℕ) → p < n * n → getD a p 0 ≤ getD d p 0
+  unfolding cell
+  withdrawn-below p h =
+      let at = place-split n p h in
+      rw (at .1 .1) at (w .below (p / n) (p % n) (at .0) (at .1 .0))
+
   pub left-line : (ℓ : ℕ) → ℓ < 2 * n → lineSum n (left n d a) ℓ + lineSum n a ℓ ≡ lineSum n d ℓ
   unfolding lineSum onLine
   left-line ℓ h = sym (sum-add n _ _) ∙ sum-ext n _ _ (λ t p.

@@ -2,21 +2,23 @@
 -- s the sum: shares times s and remainders sum to s * c, so the remainders sum to missing * s; each is below s, so at least `missing` cells
 -- have one above 0, and those come before every cell without; so a cell that gains a slot had a remainder, and as exactly `missing` cells have
 -- a rank below `missing`, the line sums to c. Assumes nothing.
-use Prim.Native.Nat.{ℕ, _+_, _*_, _≤_, _<_}
+use Prim.Native.Nat.{ℕ, _+_, _-_, _*_, _/_, _%_, _≤_, _<_}
 use native.Mathlib.Omega.{arith}
-use native.Mathlib.Nat.{mod-lt, div-add-mod', mul-le-mul-left, le-of-mul-le-mul-left}
-use mathlib.Core.Path.{_≡_, sym, _∙_, ap}
+use native.Mathlib.Nat.{mod-lt, div-add-mod', mul-le-mul-left, le-of-mul-le-mul-left, le-trans, div-le-self, mul-le-mul}
+use mathlib.Core.Path.{_≡_, refl, sym, _∙_, ap}
 use mathlib.Core.List.{List}
 use lib.ListN.{getD}
 use lib.Dec.{ltb}
 use borrow.Author.Tests.{lt-ltb, le-ltb, ltb-true}
 use Rattle.sums.specs.Sums.{sumTo, bit}
-use Rattle.sums.proofs.Sums.{sum-ext, sum-add, sum-mono, sum-scale, sum-one}
+use Rattle.sums.proofs.Sums.{sum-ext, sum-add, sum-mono, sum-scale, sum-one, sum-most}
 use Rattle.sums.proofs.Cases.{by-eq, by-lt}
 use Rattle.star.specs.Lines.{onLine, lineSum}
-use Rattle.least.specs.Least.{share, remainder, missing, before, rank, shared}
+use Rattle.star.proofs.LineLaws.{on-line-most}
+use Rattle.least.specs.Least.{longer, share, remainder, missing, before, rank, shared}
+use Rattle.least.specs.Promises.{Line, Divided}
 use Rattle.least.proofs.Sums.{by-test}
-use Rattle.least.proofs.Ranks.{larger-before, ranks-below}
+use Rattle.least.proofs.Ranks.{larger-before, ranks-below, rank-same}
 
 module _ (n : ℕ) (cap e : List ℕ) (ℓ : ℕ) (long : getD cap ℓ 0 < lineSum n e ℓ) where
   -- ---- shares and remainders
@@ -111,3 +113,54 @@ module _ (n : ℕ) (cap e : List ℕ) (ℓ : ℕ) (long : getD cap ℓ 0 < lineS
       sum-add n (share n cap e ℓ) (λ t. bit (ltb (rank n (remainder n cap e ℓ) t) (missing n cap e ℓ)))
       ∙ ap (λ x. sumTo n (share n cap e ℓ) + x) (ranks-below (remainder n cap e ℓ) n (missing n cap e ℓ) missing-most)
       ∙ shares-and-missing
+
+-- ---- tables that agree on a line
+module _ (n : ℕ) (cap e k : List ℕ) (ℓ : ℕ) (same : (t : ℕ) → t < n → onLine n e ℓ t ≡ onLine n k ℓ t) where
+  sum-same : lineSum n e ℓ ≡ lineSum n k ℓ
+  unfolding lineSum
+  sum-same = sum-ext n _ _ same
+
+  pub longer-same : longer n cap e ℓ ≡ longer n cap k ℓ
+  unfolding longer
+  longer-same = rw sum-same refl
+
+  share-same : (t : ℕ) → t < n → share n cap e ℓ t ≡ share n cap k ℓ t
+  unfolding share
+  share-same t h = rw (same t h, sum-same) refl
+
+  remainder-same : (t : ℕ) → t < n → remainder n cap e ℓ t ≡ remainder n cap k ℓ t
+  unfolding remainder
+  remainder-same t h = rw (same t h, sum-same) refl
+
+  missing-same : missing n cap e ℓ ≡ missing n cap k ℓ
+  unfolding missing
+  missing-same = ap (λ x. getD cap ℓ 0 - x) (sum-ext n _ _ share-same)
+
+  pub shared-same : (t : ℕ) → t < n → shared n cap e ℓ t ≡ shared n cap k ℓ t
+  unfolding shared
+  shared-same t h = rw (share-same t h, rank-same n _ _ remainder-same t h, missing-same) refl
+
+-- ---- a line divided in tables of its own
+pub share-is : (n : ℕ) (cap e : List ℕ) (ℓ t : ℕ) {v s : ℕ} → v ≡ onLine n e ℓ t → s ≡ lineSum n e ℓ → v * getD cap ℓ 0 / s ≡ share n cap e ℓ t
+unfolding share
+share-is n cap e ℓ t p q = rw (p, q) refl
+
+pub remainder-is : (n : ℕ) (cap e : List ℕ) (ℓ t : ℕ) {v s : ℕ} → v ≡ onLine n e ℓ t → s ≡ lineSum n e ℓ → v * getD cap ℓ 0 % s ≡ remainder n cap e ℓ t
+unfolding remainder
+remainder-is n cap e ℓ t p q = rw (p, q) refl
+
+-- v×L is at most 65,535 × 1,024, so that 64 shares together fit 32 bits
+module _ {n : ℕ} {cap e : List ℕ} {ℓ : ℕ} (on : Line n cap e ℓ) where
+  pub part-most : (t : ℕ) → t < n → onLine n e ℓ t * getD cap ℓ 0 ≤ 67107840
+  part-most t h = mul-le-mul (on-line-most n e ℓ t (on .demands) (on .line) h) (on .capacities .most ℓ (on .line))
+
+  pub share-most : (t : ℕ) → t < n → share n cap e ℓ t ≤ 67107840
+  unfolding share
+  share-most t h = le-trans (div-le-self (onLine n e ℓ t * getD cap ℓ 0) (lineSum n e ℓ)) (part-most t h)
+
+  pub shares-most : (m : ℕ) → m ≤ n → sumTo m (share n cap e ℓ) ≤ m * 67107840
+  shares-most m h = sum-most m 67107840 (share n cap e ℓ) (λ t p. share-most t (omega arith))
+
+pub divided-shares : (n : ℕ) (cap e : List ℕ) (ℓ : ℕ) (shares remainders : List ℕ) (rest : ℕ) → Divided n cap e ℓ shares remainders rest → (t : ℕ) → t < n → getD shares t 0 + bit (ltb (rank n (λ u. getD remainders u 0) t) rest) ≡ shared n cap e ℓ t
+unfolding shared
+divided-shares n cap e ℓ shares remainders rest c t h = rw (c .each t h, rank-same n _ _ (c .remains) t h, c .lacks) refl

@@ -1,11 +1,15 @@
--- Further laws of sums and tests: a range cut in two, a term that only one index can have, a case by a test. By induction and arithmetic.
+-- Further laws of sums, tests and tables: a range cut in two, a term that only one index can have, a case by a test, a table written in part. By induction and arithmetic.
 -- Assumes nothing.
 use Prim.Native.Nat.{ℕ, zero, suc, _+_, _≤_, _<_}
 use native.Mathlib.Omega.{arith}
-use mathlib.Core.Path.{_≡_, refl}
+use mathlib.Core.Path.{_≡_, refl, _∙_}
+use mathlib.Core.List.{List, _++_}
+use lib.ListN.{getD, drop}
 use mathlib.Core.Bool.{Bool, true, false}
 use Rattle.sums.specs.Sums.{sumTo, hit}
 use Rattle.sums.proofs.Sums.{sum-add, sum-hit, sum-all-zero, sum-more, sum-none, sum-mono, hit-same, hit-other}
+use Rattle.sums.specs.Tables.{tab, written}
+use Rattle.sums.proofs.Tables.{length-tab, tab-at, written-at}
 use Rattle.sums.proofs.Cases.{by-eq, by-lt}
 
 -- a case by a test
@@ -45,3 +49,8 @@ sum-hit-most n x =
 -- a sum that is larger by its term at a
 pub sum-strict : (n a : ℕ) (f g : ℕ → ℕ) → a < n → ((k : ℕ) → k < n → f k + hit a k ≤ g k) → sumTo n f < sumTo n g
 sum-strict n a f g h more = omega (arith, sum-mono n (λ k. f k + hit a k) g more, sum-add n f (λ k. hit a k), sum-hit n a h)
+
+-- a table written up to its m-th cell
+pub begun-at : (f : ℕ → ℕ) (m : ℕ) (o : List ℕ) (t : ℕ) → t < m → getD (tab m f ++ drop m o) t 0 ≡ f t
+unfolding written
+begun-at f m o t h = written-at m (tab m f) o (length-tab f m) t h ∙ tab-at f m t 0 h

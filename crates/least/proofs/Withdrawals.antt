@@ -2,17 +2,20 @@
 -- there every cell is 0 by itself. Hence the greatest withdrawn matrices are the largest of these. Assumes nothing.
 use Prim.Native.Nat.{ℕ, _+_, _*_, _≤_, _<_}
 use native.Mathlib.Omega.{arith}
-use mathlib.Core.Path.{_≡_, refl, sym, _∙_}
+use mathlib.Core.Path.{_≡_, refl, sym, _∙_, ap}
 use mathlib.Core.Bool.{Bool, true, false, _&&_}
 use mathlib.Core.List.{List}
-use lib.ListN.{getD}
+use lib.ListN.{length, getD, take}
 use borrow.Author.Tests.{ltb-false}
-use Rattle.sums.specs.Tables.{cell, tab}
-use Rattle.sums.proofs.Tables.{tab-at}
+use Rattle.sums.specs.Tables.{cell, tab, written}
+use Rattle.sums.proofs.Tables.{length-tab, tab-at, written-first}
 use Rattle.star.specs.Lines.{lineSum, overflows, excess, critical}
 use Rattle.star.proofs.LineLaws.{excess-is, overflows-is}
 use Rattle.flow.specs.Flows.{Feasible, Largest}
+use Rattle.flow.proofs.Duality.{closed-is-largest}
+use Rattle.flow.specs.Certified.{Certified}
 use Rattle.least.specs.Least.{Withdrawn, Greatest}
+use Rattle.least.specs.Promises.{Withdrew}
 use Rattle.least.proofs.Lines.{cell-in-row, cell-in-column}
 
 module _ (n : ℕ) (cap d : List ℕ) where
@@ -51,3 +54,23 @@ module _ (n : ℕ) (cap d : List ℕ) where
 
     pub largest-is-greatest : Largest n d (tab (2 * n) (excess n cap d)) a → Greatest n cap d a
     largest-is-greatest g = record { withdrawn = feasible-is-withdrawn (g .feasible); most = λ b w. g .most b (withdrawn-is-feasible w) }
+
+-- ---- the limits as a table begins with them
+module _ (n : ℕ) (cap d limits o : List ℕ) (e : limits ≡ written (2 * n) (tab (2 * n) (excess n cap d)) o) where
+  limits-first : take (2 * n) limits ≡ tab (2 * n) (excess n cap d)
+  limits-first = ap (take (2 * n)) e ∙ written-first (2 * n) (tab (2 * n) (excess n cap d)) o (length-tab (excess n cap d) (2 * n))
+
+  pub limits-fit : 2 * n ≡ length (take (2 * n) limits)
+  limits-fit = sym (ap length limits-first ∙ length-tab (excess n cap d) (2 * n))
+
+  -- the largest matrix below D and the excesses
+  pub certified-is-withdrawn : {a marks a' marks' : List ℕ} → Certified n d (take (2 * n) limits) a marks a' marks' → Withdrew n cap d a marks a' marks'
+  certified-is-withdrawn {a' = a'} {marks' = marks'} c =
+      let feasible = rw limits-first at (c .feasible) in
+      let closed = rw limits-first at (c .closed) in
+      record {
+        greatest = largest-is-greatest n cap d (closed-is-largest n d (tab (2 * n) (excess n cap d)) a' marks' feasible closed);
+        closed = closed;
+        rest = c .rest;
+        rest-marks = c .rest-marks;
+      }
