@@ -31,7 +31,7 @@ use Rattle.run.specs.Checks.{Ranges}
 use Rattle.run.specs.Calls.{Held, FreshCall, PostCall, FrameCall}
 use Rattle.run.specs.Histories.{Event, posting, framing, outcome, Happens, History, started, continued, arrived, carried, queue, exceeded, postsOf, framesOf, met, given, BooksHold}
 use Rattle.run.proofs.Verdicts.{never, fresh-accepted, post-accepted}
-use Rattle.run.proofs.PlanLaws.{FairBelow, plan-below, plan-most, met-ext}
+use Rattle.run.proofs.PlanLaws.{plan-below, plan-most, met-ext}
 
 -- ---- a pair of a table that was written by a rule
 module _ (n : ℕ) (f : ℕ → ℕ) (old : List ℕ) (i j : ℕ) (hi : i < n) (hj : j < n) where
@@ -188,13 +188,13 @@ module _ {n l limit rule : ℕ} {es : List Event} {kept withdrawn schedule kept'
         ∙ rule-cell n (λ p. getD (h .sent) p 0 + getD kept' p 0) (h .sent) i j hi hj
         ∙ ap (λ x. cell n (h .sent) i j + x) (sym (planned .plan .carried .exact i j hi hj))
 
-    sent-waited : FairBelow → (i j : ℕ) → i < n → j < n → count n l schedule' i j ≤ cell n (h .waiting) i j
-    sent-waited fair-below i j hi hj =
-        omega (arith, planned .plan .carried .exact i j hi hj, plan-below (planned .plan) fair-below (now .ranges .known-rule) i j hi hj)
+    sent-waited : (i j : ℕ) → i < n → j < n → count n l schedule' i j ≤ cell n (h .waiting) i j
+    sent-waited i j hi hj =
+        omega (arith, planned .plan .carried .exact i j hi hj, plan-below (planned .plan) (now .ranges .known-rule) i j hi hj)
 
-    now-framed : FairBelow → Now n l limit rule (framing kept withdrawn schedule kept' withdrawn' schedule' (answer.Planned k f d) ∷ es) h'
+    now-framed : Now n l limit rule (framing kept withdrawn schedule kept' withdrawn' schedule' (answer.Planned k f d) ∷ es) h'
     unfolding frameRun arrived carried queue exceeded postsOf framesOf
-    now-framed fair-below = record {
+    now-framed = record {
       ranges = now .ranges;
       nodes = ap (λ r. r .nodes) (c .record') ∙ now .nodes;
       slots = ap (λ r. r .slots) (c .record') ∙ now .slots;
@@ -207,16 +207,16 @@ module _ {n l limit rule : ℕ} {es : List Event} {kept withdrawn schedule kept'
       dropped = λ i j hi hj. ap (λ t. cell n t i j) (c .same-dropped) ∙ now .dropped i j hi hj;
       waiting = λ i j hi hj. omega (arith, less-waiting i j hi hj, now .waiting i j hi hj);
       short-enough = λ i j hi hj. omega (arith, now .short-enough i j hi hj);
-      balance = λ i j hi hj. omega (arith, now .balance i j hi hj, sent-waited fair-below i j hi hj, now .waiting i j hi hj);
+      balance = λ i j hi hj. omega (arith, now .balance i j hi hj, sent-waited i j hi hj, now .waiting i j hi hj);
       possible = now .possible;
     }
 
 -- ---- every moment
-module _ (fair-below : FairBelow) {n l limit rule : ℕ} where
+module _ {n l limit rule : ℕ} where
   now-after : (e : Event) {es : List Event} {h h' : Held} → Now n l limit rule es h → Happens e h h' → Now n l limit rule (e ∷ es) h'
   now-after (posting arrivals Accepted) now c = now-posted now c
   now-after (posting arrivals (Refused r)) now c = now-not-posted now c
-  now-after (framing kept withdrawn schedule kept' withdrawn' schedule' (answer.Planned k f d)) now c = now-framed now c fair-below
+  now-after (framing kept withdrawn schedule kept' withdrawn' schedule' (answer.Planned k f d)) now c = now-framed now c
   now-after (framing kept withdrawn schedule kept' withdrawn' schedule' (answer.Refused r)) now c = now-not-framed now c
 
   always : {es : List Event} {h : Held} → History n l limit rule es h → Now n l limit rule es h
@@ -299,7 +299,7 @@ happens-not-eight now p (posting arrivals v) h' c = post-not-eight now p c
 happens-not-eight now p (framing kept withdrawn schedule kept' withdrawn' schedule' r) h' c = frame-not-eight now p c
 
 -- ---- the theorem
-module _ (fair-below : FairBelow) {n l limit rule : ℕ} where
+module _ {n l limit rule : ℕ} where
   sends-most : {es : List Event} {kept withdrawn schedule kept' withdrawn' schedule' : List ℕ} (r : Answer) {h h' : Held} → Now n l limit rule es h →
       FrameCall kept withdrawn schedule kept' withdrawn' schedule' h h' r → verdictOf r ≡ Accepted → rule ≡ 1 →
       (other : List ℕ) → ConflictFree n l other → met n l (queue n l limit es) other ≤ given n l schedule'
@@ -312,7 +312,7 @@ module _ (fair-below : FairBelow) {n l limit rule : ℕ} where
   sends-most (answer.Refused r) now c e least other free = let z : _≡_ {A = ℕ} 0 1 = cc in omega arith
 
   pub books-hold : {es : List Event} {h : Held} → History n l limit rule es h → BooksHold n l limit rule es h
-  books-hold {es} {h} past = let now = always fair-below past in record {
+  books-hold {es} {h} past = let now = always past in record {
     nodes = now .nodes;
     slots = now .slots;
     room = now .room;
@@ -327,8 +327,8 @@ module _ (fair-below : FairBelow) {n l limit rule : ℕ} where
     agree = now-agree now;
     never-eight = λ later earlier e p split eight.
         let m = between later earlier e (subst (λ x. History n l limit rule x h) split past) in
-        happens-not-eight (always fair-below (m .2)) p e (m .1) (m .3) eight;
+        happens-not-eight (always (m .2)) p e (m .1) (m .3) eight;
     most = λ least later earlier kept withdrawn schedule kept' withdrawn' schedule' r split accepted.
         let m = between later earlier (framing kept withdrawn schedule kept' withdrawn' schedule' r) (subst (λ x. History n l limit rule x h) split past) in
-        sends-most r (always fair-below (m .2)) (m .3) accepted least;
+        sends-most r (always (m .2)) (m .3) accepted least;
   }

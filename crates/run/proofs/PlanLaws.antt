@@ -13,19 +13,16 @@ use Rattle.star.specs.Lines.{total, wholeFrame}
 use Rattle.star.specs.Schedules.{ConflictFree, count, refusedBy}
 use Rattle.star.proofs.LineLaws.{total-ext}
 use Rattle.fair.specs.Fair.{fairKept}
+use Rattle.fair.proofs.Steps.{fair-below}
 use Rattle.least.specs.Least.{keptFrom}
 use Rattle.least.proofs.Keeping.{kept-below}
 use Rattle.least.proofs.LeastIsLeast.{least-is-least-whole}
 use Rattle.planner.specs.Plans.{Plan}
 use Rattle.run.specs.Histories.{met, given}
 
--- the fair rule keeps no more than it is asked
-abbrev pub FairBelow : Type 0
-FairBelow = (n : ℕ) (cap d : List ℕ) (i j : ℕ) → i < n → j < n → cell n (fairKept n cap d) i j ≤ cell n d i j
-
 module _ {n l rule : ℕ} {cap d kept withdrawn schedule : List ℕ} (p : Plan n l rule cap d kept withdrawn schedule) where
-  pub plan-below : FairBelow → rule ≤ 1 → (i j : ℕ) → i < n → j < n → cell n kept i j ≤ cell n d i j
-  plan-below fair-below known i j hi hj =
+  pub plan-below : rule ≤ 1 → (i j : ℕ) → i < n → j < n → cell n kept i j ≤ cell n d i j
+  plan-below known i j hi hj =
       by-eq rule 0
       (λ e. omega (arith, take-cell n kept (fairKept n cap d) (p .fair e .0) i j hi hj, fair-below n cap d i j hi hj))
       (λ ne. let e : rule ≡ 1 = omega arith in
