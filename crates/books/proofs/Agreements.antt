@@ -1,11 +1,11 @@
 -- When the books of a pair agree: each of the three conditions, tested in exact arithmetic. The laws assume nothing.
 use Prim.Native.Nat.{ℕ, _+_, _*_, _≤_, _<_}
 use native.Mathlib.Omega.{arith}
-use mathlib.Core.Path.{_≡_, refl, sym, _∙_, ap}
+use mathlib.Core.Path.{_≡_, refl, _∙_, ap}
 use mathlib.Core.Bool.{Bool, true, false, _&&_, not}
 use mathlib.Core.List.{List}
 use lib.ListN.{getD}
-use lib.Dec.{leb, eqb}
+use lib.Dec.{leb}
 use borrow.Author.Tests.{le-leb, lt-leb, leb-true, eq-eqb, ne-eqb, eqb-true, not-false}
 use Rattle.sums.proofs.Searches.{first-before, first-none}
 use Rattle.books.specs.Books.{agree, booksAgree, firstDisagreeing}

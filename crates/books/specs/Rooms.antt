@@ -1,7 +1,7 @@
 -- What the work on a run's tables asks: a cell for each pair, numbers in their ranges, and sums that fit their cells.
 use Prim.Native.Nat.{ℕ, _+_, _*_, _≤_, _<_, _^_}
 use mathlib.Core.List.{List}
-use lib.ListN.{length, getD}
+use lib.ListN.{getD}
 use Rattle.star.specs.Tables.{Square, Demands}
 
 -- each of a run's four tables has a cell for each pair

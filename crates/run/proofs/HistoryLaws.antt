@@ -25,13 +25,12 @@ use Rattle.planner.specs.declared.answers.Answer.the-variants as answer
 use Rattle.planner.specs.Plans.{verdictOf, Wrote}
 use Rattle.books.specs.Books.{firstDisagreeing}
 use Rattle.books.proofs.Agreements.{Agree, none-disagreeing}
-use Rattle.run.specs.declared.record.Run.{Run}
-use Rattle.run.specs.Runs.{freshVerdict, freshRun, cleared, postVerdict, postRun, postPosted, postDropped, postWaiting, frameVerdict, frameRun}
+use Rattle.run.specs.Runs.{freshRun, cleared, postVerdict, postRun, postPosted, postDropped, postWaiting, frameVerdict, frameRun}
 use Rattle.run.specs.Checks.{Ranges}
 use Rattle.run.specs.Calls.{Held, FreshCall, PostCall, FrameCall}
-use Rattle.run.specs.Histories.{Event, posting, framing, outcome, Happens, History, started, continued, arrived, carried, queue, exceeded, postsOf, framesOf, met, given, BooksHold}
+use Rattle.run.specs.Histories.{Lent, Event, posting, framing, outcome, Happens, History, started, continued, arrived, carried, queue, exceeded, postsOf, framesOf, met, given, BooksHold}
 use Rattle.run.proofs.Verdicts.{never, fresh-accepted, post-accepted}
-use Rattle.run.proofs.PlanLaws.{plan-below, plan-most, met-ext}
+use Rattle.run.proofs.PlanLaws.{at-place, plan-below, plan-most, met-ext}
 
 -- ---- a pair of a table that was written by a rule
 module _ (n : ℕ) (f : ℕ → ℕ) (old : List ℕ) (i j : ℕ) (hi : i < n) (hj : j < n) where
@@ -149,9 +148,9 @@ module _ {n l limit rule : ℕ} {es : List Event} {arrivals : List ℕ} {h h' : 
     }
 
 -- ---- a frame
-module _ {n l limit rule : ℕ} {es : List Event} {kept withdrawn schedule kept' withdrawn' schedule' : List ℕ} {h h' : Held} (now : Now n l limit rule es h) where
-  module _ {r : Refusal} (c : FrameCall kept withdrawn schedule kept' withdrawn' schedule' h h' (answer.Refused r)) where
-    now-not-framed : Now n l limit rule (framing kept withdrawn schedule kept' withdrawn' schedule' (answer.Refused r) ∷ es) h'
+module _ {n l limit rule : ℕ} {es : List Event} (lent plan : Lent) {h h' : Held} (now : Now n l limit rule es h) where
+  module _ {r : Refusal} (c : FrameCall (lent .kept) (lent .withdrawn) (lent .schedule) (plan .kept) (plan .withdrawn) (plan .schedule) h h' (answer.Refused r)) where
+    now-not-framed : Now n l limit rule (framing lent plan (answer.Refused r) ∷ es) h'
     unfolding frameRun arrived carried queue exceeded postsOf framesOf
     now-not-framed = let same = c .tables .refused r refl in record {
       ranges = now .ranges;
@@ -170,29 +169,29 @@ module _ {n l limit rule : ℕ} {es : List Event} {kept withdrawn schedule kept'
       possible = now .possible;
     }
 
-  module _ {k f d : ℕ} (c : FrameCall kept withdrawn schedule kept' withdrawn' schedule' h h' (answer.Planned k f d)) where
-    planned : Wrote n l rule (wholeFrame n l) (h .waiting) kept withdrawn schedule kept' withdrawn' schedule' (answer.Planned k f d)
+  module _ {k f d : ℕ} (c : FrameCall (lent .kept) (lent .withdrawn) (lent .schedule) (plan .kept) (plan .withdrawn) (plan .schedule) h h' (answer.Planned k f d)) where
+    planned : Wrote n l rule (wholeFrame n l) (h .waiting) (lent .kept) (lent .withdrawn) (lent .schedule) (plan .kept) (plan .withdrawn) (plan .schedule) (answer.Planned k f d)
     planned = rw (now .nodes, now .slots, now .rules) at (c .tables .accepted refl)
 
-    less-waiting : (i j : ℕ) → i < n → j < n → cell n (h' .waiting) i j ≡ cell n (h .waiting) i j - count n l schedule' i j
+    less-waiting : (i j : ℕ) → i < n → j < n → cell n (h' .waiting) i j ≡ cell n (h .waiting) i j - count n l (plan .schedule) i j
     unfolding cell
     less-waiting i j hi hj =
         ap (λ t. cell n t i j) (rw (now .nodes) at (c .tables .now-waiting refl))
-        ∙ rule-cell n (λ p. getD (h .waiting) p 0 - getD kept' p 0) (h .waiting) i j hi hj
+        ∙ rule-cell n (λ p. getD (h .waiting) p 0 - getD (plan .kept) p 0) (h .waiting) i j hi hj
         ∙ ap (λ x. cell n (h .waiting) i j - x) (sym (planned .plan .carried .exact i j hi hj))
 
-    more-sent : (i j : ℕ) → i < n → j < n → cell n (h' .sent) i j ≡ cell n (h .sent) i j + count n l schedule' i j
+    more-sent : (i j : ℕ) → i < n → j < n → cell n (h' .sent) i j ≡ cell n (h .sent) i j + count n l (plan .schedule) i j
     unfolding cell
     more-sent i j hi hj =
         ap (λ t. cell n t i j) (rw (now .nodes) at (c .tables .now-sent refl))
-        ∙ rule-cell n (λ p. getD (h .sent) p 0 + getD kept' p 0) (h .sent) i j hi hj
+        ∙ rule-cell n (λ p. getD (h .sent) p 0 + getD (plan .kept) p 0) (h .sent) i j hi hj
         ∙ ap (λ x. cell n (h .sent) i j + x) (sym (planned .plan .carried .exact i j hi hj))
 
-    sent-waited : (i j : ℕ) → i < n → j < n → count n l schedule' i j ≤ cell n (h .waiting) i j
+    sent-waited : (i j : ℕ) → i < n → j < n → count n l (plan .schedule) i j ≤ cell n (h .waiting) i j
     sent-waited i j hi hj =
         omega (arith, planned .plan .carried .exact i j hi hj, plan-below (planned .plan) (now .ranges .known-rule) i j hi hj)
 
-    now-framed : Now n l limit rule (framing kept withdrawn schedule kept' withdrawn' schedule' (answer.Planned k f d) ∷ es) h'
+    now-framed : Now n l limit rule (framing lent plan (answer.Planned k f d) ∷ es) h'
     unfolding frameRun arrived carried queue exceeded postsOf framesOf
     now-framed = record {
       ranges = now .ranges;
@@ -216,8 +215,8 @@ module _ {n l limit rule : ℕ} where
   now-after : (e : Event) {es : List Event} {h h' : Held} → Now n l limit rule es h → Happens e h h' → Now n l limit rule (e ∷ es) h'
   now-after (posting arrivals Accepted) now c = now-posted now c
   now-after (posting arrivals (Refused r)) now c = now-not-posted now c
-  now-after (framing kept withdrawn schedule kept' withdrawn' schedule' (answer.Planned k f d)) now c = now-framed now c
-  now-after (framing kept withdrawn schedule kept' withdrawn' schedule' (answer.Refused r)) now c = now-not-framed now c
+  now-after (framing lent plan (answer.Planned k f d)) now c = now-framed lent plan now c
+  now-after (framing lent plan (answer.Refused r)) now c = now-not-framed lent plan now c
 
   always : {es : List Event} {h : Held} → History n l limit rule es h → Now n l limit rule es h
   always (started h h' c) = now-started c
@@ -231,19 +230,15 @@ between (x ∷ later) earlier e (continued x₁ es h h' past c) = between later 
 
 -- ---- the books agree
 module _ {n l limit rule : ℕ} {es : List Event} {h : Held} (now : Now n l limit rule es h) where
-  at-place : (t : List ℕ) (p : ℕ) → p < n * n → getD t p 0 ≡ cell n t (p / n) (p % n)
-  unfolding cell
-  at-place t p lt = ap (λ x. getD t x 0) (sym (place-split n p lt .1 .1))
-
   all-agree : (p : ℕ) → p < n * n → Agree limit (h .run .posts) (getD (h .waiting) p 0) (getD (h .posted) p 0) (getD (h .sent) p 0) (getD (h .dropped) p 0)
   all-agree p lt =
       let i = p / n in
       let j = p % n in
       let s = place-split n p lt in
       record {
-        short-enough = omega (arith, at-place (h .waiting) p lt, now .waiting i j (s .0) (s .1 .0), now .short-enough i j (s .0) (s .1 .0));
-        balance = omega (arith, at-place (h .waiting) p lt, at-place (h .posted) p lt, at-place (h .sent) p lt, at-place (h .dropped) p lt, now .waiting i j (s .0) (s .1 .0), now .posted i j (s .0) (s .1 .0), now .sent i j (s .0) (s .1 .0), now .dropped i j (s .0) (s .1 .0), now .balance i j (s .0) (s .1 .0));
-        possible = omega (arith, at-place (h .posted) p lt, now .posted i j (s .0) (s .1 .0), now .possible i j (s .0) (s .1 .0), now .posts);
+        short-enough = omega (arith, at-place n (h .waiting) p lt, now .waiting i j (s .0) (s .1 .0), now .short-enough i j (s .0) (s .1 .0));
+        balance = omega (arith, at-place n (h .waiting) p lt, at-place n (h .posted) p lt, at-place n (h .sent) p lt, at-place n (h .dropped) p lt, now .waiting i j (s .0) (s .1 .0), now .posted i j (s .0) (s .1 .0), now .sent i j (s .0) (s .1 .0), now .dropped i j (s .0) (s .1 .0), now .balance i j (s .0) (s .1 .0));
+        possible = omega (arith, at-place n (h .posted) p lt, now .posted i j (s .0) (s .1 .0), now .possible i j (s .0) (s .1 .0), now .posts);
       }
 
   now-agree : firstDisagreeing n limit (h .run .posts) (h .waiting) (h .posted) (h .sent) (h .dropped) ≡ n * n
@@ -282,10 +277,10 @@ module _ {n l limit rule : ℕ} {es : List Event} {h h' : Held} (now : Now n l l
       let calls = other _ _ _ books (λ q. omega arith) in
       never (sym (other _ _ _ calls (λ q. omega arith)))
 
-  frame-not-eight : {kept withdrawn schedule kept' withdrawn' schedule' : List ℕ} {r : Answer} →
-      FrameCall kept withdrawn schedule kept' withdrawn' schedule' h h' r → verdictOf r ≡ Refused (BooksDisagree p) → ⊥
+  frame-not-eight : (lent plan : Lent) {r : Answer} →
+      FrameCall (lent .kept) (lent .withdrawn) (lent .schedule) (plan .kept) (plan .withdrawn) (plan .schedule) h h' r → verdictOf r ≡ Refused (BooksDisagree p) → ⊥
   unfolding frameVerdict
-  frame-not-eight c e =
+  frame-not-eight lent plan c e =
       let nodes = other _ _ _ (sym (c .tables .answer) ∙ e) (λ q. omega arith) in
       let slots = other _ _ _ nodes (λ q. omega arith) in
       let rules = other _ _ _ slots (λ q. omega arith) in
@@ -296,20 +291,20 @@ module _ {n l limit rule : ℕ} {es : List Event} {h h' : Held} (now : Now n l l
 
 happens-not-eight : {n l limit rule : ℕ} {es : List Event} {h : Held} → Now n l limit rule es h → (p : ℕ) (e : Event) (h' : Held) → Happens e h h' → outcome e ≡ Refused (BooksDisagree p) → ⊥
 happens-not-eight now p (posting arrivals v) h' c = post-not-eight now p c
-happens-not-eight now p (framing kept withdrawn schedule kept' withdrawn' schedule' r) h' c = frame-not-eight now p c
+happens-not-eight now p (framing lent plan r) h' c = frame-not-eight now p lent plan c
 
 -- ---- the theorem
 module _ {n l limit rule : ℕ} where
-  sends-most : {es : List Event} {kept withdrawn schedule kept' withdrawn' schedule' : List ℕ} (r : Answer) {h h' : Held} → Now n l limit rule es h →
-      FrameCall kept withdrawn schedule kept' withdrawn' schedule' h h' r → verdictOf r ≡ Accepted → rule ≡ 1 →
-      (other : List ℕ) → ConflictFree n l other → met n l (queue n l limit es) other ≤ given n l schedule'
-  sends-most {es = es} (answer.Planned k f d) {h = h} now c e least other free =
+  sends-most : {es : List Event} (lent plan : Lent) (r : Answer) {h h' : Held} → Now n l limit rule es h →
+      FrameCall (lent .kept) (lent .withdrawn) (lent .schedule) (plan .kept) (plan .withdrawn) (plan .schedule) h h' r → verdictOf r ≡ Accepted → rule ≡ 1 →
+      (other : List ℕ) → ConflictFree n l other → met n l (queue n l limit es) other ≤ given n l (plan .schedule)
+  sends-most {es = es} lent plan (answer.Planned k f d) {h = h} now c e least other free =
       omega (
         arith,
         met-ext n l (cell n (h .waiting)) (queue n l limit es) other (now .waiting),
-        plan-most (rw least at (planned now c .plan)) other free,
+        plan-most (rw least at (planned lent plan now c .plan)) other free,
       )
-  sends-most (answer.Refused r) now c e least other free = let z : _≡_ {A = ℕ} 0 1 = cc in omega arith
+  sends-most lent plan (answer.Refused r) now c e least other free = let z : _≡_ {A = ℕ} 0 1 = cc in omega arith
 
   pub books-hold : {es : List Event} {h : Held} → History n l limit rule es h → BooksHold n l limit rule es h
   books-hold {es} {h} past = let now = always past in record {
@@ -328,7 +323,7 @@ module _ {n l limit rule : ℕ} where
     never-eight = λ later earlier e p split eight.
         let m = between later earlier e (subst (λ x. History n l limit rule x h) split past) in
         happens-not-eight (always (m .2)) p e (m .1) (m .3) eight;
-    most = λ least later earlier kept withdrawn schedule kept' withdrawn' schedule' r split accepted.
-        let m = between later earlier (framing kept withdrawn schedule kept' withdrawn' schedule' r) (subst (λ x. History n l limit rule x h) split past) in
-        sends-most r (always (m .2)) (m .3) accepted least;
+    most = λ least later earlier lent plan r split accepted.
+        let m = between later earlier (framing lent plan r) (subst (λ x. History n l limit rule x h) split past) in
+        sends-most lent plan r (always (m .2)) (m .3) accepted least;
   }

@@ -1,18 +1,26 @@
 -- What each entry owes once its verdict is known: nothing changes after a refusal, and after an acceptance the work has the room that it asks
 -- and leaves what the contract says. Assumes nothing.
-use Prim.Native.Nat.{ℕ, _+_, _-_, _*_, _≤_, _<_, min}
+use Prim.Native.Nat.{ℕ, _+_, _-_, _*_, _<_, _^_, min}
+use native.Mathlib.Nat.{le-of-eq}
 use native.Mathlib.Omega.{arith}
-use mathlib.Core.Path.{_≡_, refl, sym, _∙_, ap}
+use mathlib.Core.Path.{_≡_, refl, sym, _∙_}
 use mathlib.Core.List.{List}
 use lib.ListN.{length, getD, replicate}
 use Rattle.sums.specs.Tables.{tab, written}
 use Rattle.star.specs.declared.refusals.Refusal.{Refusal}
 use Rattle.star.specs.declared.refusals.Verdict.{Verdict}
 use Rattle.star.specs.declared.refusals.Verdict.the-variants.{Accepted, Refused}
-use Rattle.books.specs.Rooms.{Tables, Adds, Arrives, Drops}
+use Rattle.star.specs.Tables.{Square}
+use Rattle.star.specs.Lines.{wholeFrame}
+use Rattle.star.proofs.LineLaws.{capacity, whole-frame-fits}
+use Rattle.planner.specs.declared.answers.Answer.{Answer}
+use Rattle.planner.specs.declared.answers.Answer.the-variants as answer
+use Rattle.planner.specs.Plans.{verdictOf, PlanRoom, Wrote}
+use Rattle.books.specs.Rooms.{Tables, Adds, Arrives, Drops, Takes}
 use Rattle.run.specs.declared.record.Run.{Run}
-use Rattle.run.specs.Runs.{freshVerdict, cleared, Freshened, postVerdict, postWaiting, postPosted, postDropped, Posted}
-use Rattle.run.proofs.Verdicts.{PostFits, fresh-accepted, post-accepted}
+use Rattle.run.specs.Runs.{freshVerdict, cleared, Freshened, postVerdict, postWaiting, postPosted, postDropped, Posted, frameVerdict, Framed}
+use Rattle.run.proofs.Verdicts.{never, PostFits, FrameFits, fresh-accepted, post-accepted, frame-accepted}
+use Rattle.run.proofs.PlanLaws.{plan-below-at}
 
 -- ---- fresh
 module _ (old : Run) (n l limit rule : ℕ) (waiting posted sent dropped : List ℕ) {v : Verdict}
@@ -69,3 +77,74 @@ module _ {old : Run} {arrivals waiting posted sent dropped : List ℕ} (fits : P
 pub post-counted : {old : Run} {arrivals waiting posted sent dropped waiting' posted' dropped' : List ℕ} {v : Verdict} →
     Posted old arrivals waiting posted sent dropped waiting' posted' dropped' v → v ≡ Accepted → old .posts < 1000000
 post-counted {old} {arrivals} {waiting} {posted} {sent} {dropped} h e = post-accepted old arrivals waiting posted sent dropped (sym (h .answer) ∙ e) .order .few
+
+-- ---- frame
+module _ (old : Run) (waiting posted sent dropped kept withdrawn schedule : List ℕ) {v : Verdict}
+    (is : v ≡ frameVerdict old waiting posted sent dropped (length kept) (length withdrawn) (length schedule)) where
+  pub frame-refused : {x : Refusal} → v ≡ Refused x →
+      Framed old waiting posted sent dropped kept withdrawn schedule waiting sent kept withdrawn schedule (answer.Refused x)
+  frame-refused e = record {
+    answer = sym e ∙ is;
+    accepted = λ q. absurd (never q);
+    now-waiting = λ q. absurd (never q);
+    now-sent = λ q. absurd (never q);
+    refused = λ x q. (refl, refl, refl, refl, refl);
+  }
+
+  pub frame-fits : v ≡ Accepted → FrameFits old waiting posted sent dropped (length kept) (length withdrawn) (length schedule)
+  frame-fits e = frame-accepted old waiting posted sent dropped (length kept) (length withdrawn) (length schedule) (sym is ∙ e)
+
+  pub frame-done : v ≡ Accepted → {waiting' sent' kept' withdrawn' schedule' : List ℕ} {r : Answer} → verdictOf r ≡ Accepted →
+      Wrote (old .nodes) (old .slots) (old .rule) (wholeFrame (old .nodes) (old .slots)) waiting kept withdrawn schedule kept' withdrawn' schedule' r →
+      waiting' ≡ written (old .nodes * old .nodes) (tab (old .nodes * old .nodes) (λ p. getD waiting p 0 - getD kept' p 0)) waiting →
+      sent' ≡ written (old .nodes * old .nodes) (tab (old .nodes * old .nodes) (λ p. getD sent p 0 + getD kept' p 0)) sent →
+      Framed old waiting posted sent dropped kept withdrawn schedule waiting' sent' kept' withdrawn' schedule' r
+  frame-done e planned wrote w s = record {
+    answer = planned ∙ sym e ∙ is;
+    accepted = λ q. wrote;
+    now-waiting = λ q. w;
+    now-sent = λ q. s;
+    refused = λ x q. absurd (never (sym q ∙ planned));
+  }
+
+module _ {old : Run} {waiting posted sent dropped kept withdrawn schedule : List ℕ}
+    (fits : FrameFits old waiting posted sent dropped (length kept) (length withdrawn) (length schedule)) where
+  -- all checks have passed, so that the queues can be planned, each line with the whole frame
+  pub frame-room : PlanRoom (old .nodes) (old .slots) (old .rule) (wholeFrame (old .nodes) (old .slots)) waiting kept withdrawn schedule
+  frame-room = record {
+    some-nodes = fits .ranges .some-nodes;
+    nodes = fits .ranges .nodes;
+    some-slots = fits .ranges .some-slots;
+    slots = fits .ranges .slots;
+    known-rule = fits .ranges .known-rule;
+    demand = fits .tables .queues .cells;
+    within = record { most = λ p h. omega (arith, fits .order .books p h) };
+    lines = whole-frame-fits (old .nodes) (old .slots) (fits .ranges .slots) .lines;
+    most = λ ℓ h. le-of-eq (capacity (old .nodes) (old .slots) ℓ h);
+    kept-room = fits .kept-room;
+    withdrawn-room = fits .withdrawn-room;
+    schedule-room = fits .schedule-room;
+  }
+
+  module _ {kept' withdrawn' schedule' : List ℕ} {r : Answer} (same : length kept' ≡ length kept)
+      (wrote : Wrote (old .nodes) (old .slots) (old .rule) (wholeFrame (old .nodes) (old .slots)) waiting kept withdrawn schedule kept' withdrawn' schedule' r) where
+    kept-square : Square (old .nodes) kept'
+    kept-square = record { nodes = fits .ranges .nodes; cells = omega (arith, fits .kept-room) }
+
+    -- no more is kept than waits
+    pub frame-takes : Takes (old .nodes) kept' waiting
+    frame-takes = record { room = fits .tables .queues; given = kept-square; below = plan-below-at (wrote .plan) (fits .ranges .known-rule) }
+
+    -- what was sent and what is kept make up at most what was posted
+    pub frame-adds : ((p : ℕ) → getD posted p 0 < 2 ^ 64) → Adds (old .nodes) sent kept'
+    frame-adds small = record {
+      room = fits .tables .sendings;
+      given = kept-square;
+      fits = λ p h. omega (arith, fits .order .books p h, plan-below-at (wrote .plan) (fits .ranges .known-rule) p h, small p);
+    }
+
+-- the count of frames can rise where a frame is accepted
+pub frame-counted : {old : Run} {waiting posted sent dropped kept withdrawn schedule waiting' sent' kept' withdrawn' schedule' : List ℕ} {r : Answer} →
+    Framed old waiting posted sent dropped kept withdrawn schedule waiting' sent' kept' withdrawn' schedule' r → verdictOf r ≡ Accepted → old .frames < 1000000
+frame-counted {old} {waiting} {posted} {sent} {dropped} {kept} {withdrawn} {schedule} h e =
+    frame-accepted old waiting posted sent dropped (length kept) (length withdrawn) (length schedule) (sym (h .answer) ∙ e) .order .few

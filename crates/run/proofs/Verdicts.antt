@@ -1,18 +1,17 @@
 -- Chains of checks read backwards: what an accepted call has passed, and what a chain gives once its first checks are known. A check that
 -- gives Accepted did not fire, and left it to the later ones. Assumes nothing.
-use Prim.Native.Nat.{ℕ, _+_, _*_, _≤_, _<_}
+use Prim.Native.Nat.{ℕ, _*_, _≤_, _<_}
 use native.Mathlib.Omega.{arith}
-use mathlib.Core.Path.{_≡_, refl, sym, _∙_, ap}
+use mathlib.Core.Path.{_≡_, refl, sym, _∙_}
 use mathlib.Core.Bool.{Bool, true, false, _||_}
 use mathlib.Core.List.{List}
 use lib.ListN.{length, getD}
-use lib.Dec.{ltb, leb}
 use borrow.Author.Tests.{ltb-false, leb-false}
 use Rattle.star.specs.declared.refusals.Refusal.{Refusal}
 use Rattle.star.specs.declared.refusals.Refusal.the-variants.{Nodes, Slots, Rule, QueueLimit, BooksDisagree, CallsSpent}
 use Rattle.star.specs.declared.refusals.Verdict.{Verdict}
 use Rattle.star.specs.declared.refusals.Verdict.the-variants.{Accepted, Refused}
-use Rattle.star.specs.Refusals.{refuse, outside, nodesOut, slotsOut, ruleOut, limitOut, short, spent, someCell, firstAbove}
+use Rattle.star.specs.Refusals.{refuse, outside, nodesOut, slotsOut, ruleOut, limitOut, short, spent, someCell}
 use Rattle.star.specs.Tables.{Square, Demands}
 use Rattle.star.proofs.RefusalLaws.{within-range}
 use Rattle.books.specs.Books.{firstDisagreeing}
@@ -174,14 +173,14 @@ module _ (old : Run) (waiting posted sent dropped : List ℕ) (kept withdrawn sc
   frame-accepted e =
       let a = in-ranges (old .nodes) (old .slots) (old .rule) (old .limit) e in
       let b = passed _ _ _ (a .1) in
-      let s = neither-of _ _ (b .0) in
-      let w = neither-of _ _ (s .0) in
-      let k = neither-of _ _ (w .0) in
+      let t = neither-of _ _ (b .0) in
+      let s = neither-of _ _ (t .1) in
+      let k = neither-of _ _ (s .0) in
       record {
         ranges = a .0;
-        tables = long-tables (old .nodes) waiting posted sent dropped (a .0 .nodes) (k .0);
-        kept-room = long-enough _ _ (k .1);
-        withdrawn-room = long-enough _ _ (w .1);
+        tables = long-tables (old .nodes) waiting posted sent dropped (a .0 .nodes) (t .0);
+        kept-room = long-enough _ _ (k .0);
+        withdrawn-room = long-enough _ _ (k .1);
         schedule-room = long-enough _ _ (s .1);
         order = in-order (old .nodes) (old .limit) (old .posts) (old .frames) waiting posted sent dropped (b .1) .0;
       }

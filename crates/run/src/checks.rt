@@ -6,7 +6,7 @@ ghost use mathlib.Core.Path.{_≡_};
 ghost use Prim.Native.Nat.{_≤_};
 ghost use Rattle.star.specs.Refusals.{outside};
 ghost use Rattle.books.specs.Rooms.{Tables};
-ghost use Rattle.run.specs.Runs.{runShort};
+ghost use Rattle.run.specs.Runs.{runShort, planShort};
 ghost use Rattle.run.specs.Checks.{rangesVerdict, booksVerdict};
 
 // Whether a number is outside its range.
@@ -62,6 +62,21 @@ pub fn short(n: usize, waiting: usize, posted: usize, sent: usize, dropped: usiz
         return true;
     }
     dropped < cells
+}
+
+// Whether any of the three tables that a frame writes is too short, given how many cells each has.
+pub fn short_plan(n: usize, l: usize, kept: usize, withdrawn: usize, schedule: usize) -> bool
+    requires { ⌜ (n ≤ 64) × (l ≤ 1024) ⌝ }
+    ensures { λ r. ⌜ r ≡ planShort n l kept withdrawn schedule ⌝ }
+{
+    let cells = n * n;
+    if kept < cells {
+        return true;
+    }
+    if withdrawn < cells {
+        return true;
+    }
+    schedule < l * n
 }
 
 // The books of each pair (8), and how often this kind of call was accepted (9).

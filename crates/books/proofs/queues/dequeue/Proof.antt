@@ -1,13 +1,12 @@
-use Prim.Native.Nat.{_*_, _-_, _≤_, _+_}
+-- `dequeue` meets its contract: the cells passed have lost what is kept, which is no more than waits; the others are as before. Assumes nothing.
+use Prim.Native.Nat.{_*_, _-_, _≤_}
 use native.Mathlib.Omega.{arith}
-use mathlib.Core.Path.{_≡_, refl, ap, _∙_}
+use mathlib.Core.Path.{_≡_, refl}
 use lib.ListN.{getD}
 use Rattle.sums.proofs.Tables.{mul-small}
 use Rattle.books.proofs.Fills.{Filled, filled-none, filled-next, filled-more, filled-all}
 use Rattle.books.proofs.queues.dequeue.Statement.{statement}
 use Rattle.books.proofs.queues.dequeue.Tie as tie
-use Rattle.books.proofs.queues.dequeue.Reads as reads
-use Rattle.books.proofs.queues.dequeue.Lts as lts
 
 abbrev Inv-loop : tie.InvT-loop
 Inv-loop n kept waiting₀ cells p₀ waiting p = (p ≤ n * n) × (cells ≡ n * n) × Filled p (λ q. getD waiting₀ q 0 - getD kept q 0) waiting₀ waiting
@@ -15,59 +14,45 @@ Inv-loop n kept waiting₀ cells p₀ waiting p = (p ≤ n * n) × (cells ≡ n 
 abbrev μ-loop : tie.MeasureT-loop
 μ-loop n kept waiting₀ cells p₀ waiting p = n * n - p
 
--- src/queues.rt:77:17
 mul-cells : tie.Need-mul-cells Inv-loop μ-loop
 mul-cells c = omega (arith, mul-small (c .args .n) (c .args .n) (omega arith) (omega arith))
 
--- src/queues.rt:79:5
 loop-holds : tie.Need-loop-holds Inv-loop μ-loop
 loop-holds c = (omega arith, refl, filled-none _ _)
 
--- src/queues.rt:80:22
 mul-waiting : tie.Need-mul-waiting Inv-loop μ-loop
 mul-waiting c = omega arith
 
--- src/queues.rt:80:22
 slice-read-waiting : tie.Need-slice-read-waiting Inv-loop μ-loop
 slice-read-waiting c = omega arith
 
--- src/queues.rt:80:35
 mul-waiting-2 : tie.Need-mul-waiting-2 Inv-loop μ-loop
 mul-waiting-2 c = omega arith
 
--- src/queues.rt:80:35
 shared-slice-read-waiting : tie.Need-shared-slice-read-waiting Inv-loop μ-loop
 shared-slice-read-waiting c = omega arith
 
--- src/queues.rt:80:22
 sub-waiting : tie.Need-sub-waiting Inv-loop μ-loop
 sub-waiting c = omega (arith, filled-next (c .before .before .before .loop .inv .2) (omega arith), c .before .before .before .before .pre .below (c .before .before .before .loop .p) (omega arith))
 
--- src/queues.rt:80:9
 mul-waiting-3 : tie.Need-mul-waiting-3 Inv-loop μ-loop
 mul-waiting-3 c = omega arith
 
--- src/queues.rt:80:9
 slice-write-waiting : tie.Need-slice-write-waiting Inv-loop μ-loop
 slice-write-waiting c = omega arith
 
--- src/queues.rt:81:9
 add-p : tie.Need-add-p Inv-loop μ-loop
 add-p c = omega arith
 
--- src/queues.rt:79:5
 loop-less : tie.Need-loop-less Inv-loop μ-loop
 loop-less c = omega arith
 
--- src/queues.rt:79:5
 loop-again : tie.Need-loop-again Inv-loop μ-loop
 loop-again c = (omega arith, refl, filled-more _ (c .before .before .before .loop .inv .2) (omega arith) (omega (arith, filled-next (c .before .before .before .loop .inv .2) (omega arith))))
 
--- src/queues.rt:73:1
 same-length : tie.Need-same-length Inv-loop μ-loop
 same-length c = c .before .loop .inv .2 .same-size
 
--- src/queues.rt:73:1
 returns : tie.Need-returns Inv-loop μ-loop
 returns c = filled-all (c .before .before .args .n * c .before .before .args .n) (c .before .loop .inv .2) (omega arith)
 

@@ -1,14 +1,12 @@
+-- `enqueue` meets its contract: the cells passed hold what waits after the arrival, the others are as before. Assumes nothing.
 use Prim.Native.Nat.{_*_, _-_, _≤_, _+_, min}
 use native.Mathlib.Omega.{arith}
-use mathlib.Core.Path.{_≡_, refl, ap, _∙_}
+use mathlib.Core.Path.{_≡_, refl}
 use lib.ListN.{getD}
 use Rattle.sums.proofs.Tables.{mul-small}
 use Rattle.books.proofs.Fills.{Filled, filled-none, filled-next, filled-more, filled-all}
 use Rattle.books.proofs.queues.enqueue.Statement.{statement}
 use Rattle.books.proofs.queues.enqueue.Tie as tie
-use Rattle.books.proofs.queues.enqueue.Reads as reads
-use Rattle.books.proofs.queues.enqueue.Lts as lts
-use Rattle.books.proofs.queues.waits.Reads as waits-reads
 
 abbrev Inv-loop : tie.InvT-loop
 Inv-loop n limit arrivals waiting₀ cells p₀ waiting p = (p ≤ n * n) × (cells ≡ n * n) × Filled p (λ q. min (getD waiting₀ q 0 + getD arrivals q 0) limit) waiting₀ waiting
@@ -16,59 +14,45 @@ Inv-loop n limit arrivals waiting₀ cells p₀ waiting p = (p ≤ n * n) × (ce
 abbrev μ-loop : tie.MeasureT-loop
 μ-loop n limit arrivals waiting₀ cells p₀ waiting p = n * n - p
 
--- src/queues.rt:64:17
 mul-cells : tie.Need-mul-cells Inv-loop μ-loop
 mul-cells c = omega (arith, mul-small (c .before .before .args .n) (c .before .before .args .n) (omega arith) (omega arith))
 
--- src/queues.rt:66:5
 loop-holds : tie.Need-loop-holds Inv-loop μ-loop
 loop-holds c = (omega arith, refl, filled-none _ _)
 
--- src/queues.rt:67:35
 mul-waits : tie.Need-mul-waits Inv-loop μ-loop
 mul-waits c = omega arith
 
--- src/queues.rt:67:35
 slice-read-waits : tie.Need-slice-read-waits Inv-loop μ-loop
 slice-read-waits c = omega arith
 
--- src/queues.rt:67:47
 mul-waits-2 : tie.Need-mul-waits-2 Inv-loop μ-loop
 mul-waits-2 c = omega arith
 
--- src/queues.rt:67:47
 shared-slice-read-waits : tie.Need-shared-slice-read-waits Inv-loop μ-loop
 shared-slice-read-waits c = omega arith
 
--- src/queues.rt:67:22
 waits-requires : tie.Need-waits-requires Inv-loop μ-loop
 waits-requires c κs = (omega (arith, filled-next (c .before .before .before .loop .inv .2) (omega arith), c .before .before .before .before .before .before .pre .queues .most (c .before .before .before .loop .p) (omega arith)), c .before .before .before .before .before .before .pre .within .most _ (omega arith))
 
--- src/queues.rt:67:9
 mul-waiting : tie.Need-mul-waiting Inv-loop μ-loop
 mul-waiting c = omega arith
 
--- src/queues.rt:67:9
 slice-write-waiting : tie.Need-slice-write-waiting Inv-loop μ-loop
 slice-write-waiting c = omega arith
 
--- src/queues.rt:68:9
 add-p : tie.Need-add-p Inv-loop μ-loop
 add-p c = omega arith
 
--- src/queues.rt:66:5
 loop-less : tie.Need-loop-less Inv-loop μ-loop
 loop-less c = omega arith
 
--- src/queues.rt:66:5
 loop-again : tie.Need-loop-again Inv-loop μ-loop
 loop-again c = (omega arith, refl, filled-more _ (c .before .before .before .before .loop .inv .2) (omega arith) (omega (arith, filled-next (c .before .before .before .before .loop .inv .2) (omega arith))))
 
--- src/queues.rt:60:1
 same-length : tie.Need-same-length Inv-loop μ-loop
 same-length c = c .before .loop .inv .2 .same-size
 
--- src/queues.rt:60:1
 returns : tie.Need-returns Inv-loop μ-loop
 returns c = filled-all (c .before .before .before .before .args .n * c .before .before .before .before .args .n) (c .before .loop .inv .2) (omega arith)
 

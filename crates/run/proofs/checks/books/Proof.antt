@@ -1,39 +1,31 @@
+-- `books` meets its contract: the two checks in their order. Assumes nothing.
 use native.Mathlib.Omega.{arith}
-use mathlib.Core.Path.{_≡_, refl, sym, _∙_}
+use mathlib.Core.Path.{refl}
 use borrow.Author.Tests.{lt-ltb, le-ltb, le-leb, lt-leb}
-use Rattle.star.proofs.RefusalLaws.{fires, passes}
-use Rattle.sums.proofs.Tables.{mul-small}
-use Rattle.run.specs.Checks.{booksVerdict}
 use borrow.Author.Needs.{needs}
+use Rattle.sums.proofs.Tables.{mul-small}
+use Rattle.star.proofs.RefusalLaws.{fires, passes}
+use Rattle.run.specs.Checks.{booksVerdict}
 use Rattle.run.proofs.checks.books.Statement.{statement}
 use Rattle.run.proofs.checks.books.Tie as tie
-use Rattle.run.proofs.checks.books.Reads as reads
-use Rattle.run.proofs.checks.books.Lts as lts
-use Rattle.books.proofs.agreement.first_disagreeing.Reads as first-disagreeing-reads
 
--- src/checks.rt:81:9
 first-disagreeing-requires : tie.Need-first-disagreeing-requires
 first-disagreeing-requires c κs = search needs
 
--- src/checks.rt:82:14
 mul-if1 : tie.Need-mul-if1
 mul-if1 c = search needs
 
--- src/checks.rt:84:53
 cast-t12 : tie.Need-cast-t12
 cast-t12 c = omega (arith, mul-small (c .before .before .before .before .before .before .args .n) (c .before .before .before .before .before .before .args .n) (omega arith) (omega arith))
 
--- src/checks.rt:83:9
 returns : tie.Need-returns
 unfolding booksVerdict
 returns c = rw (← (c .before .first-disagreeing .ensures)) (fires _ (lt-ltb _ _ (c .if1 .taken)))
 
--- src/checks.rt:88:9
 returns-2 : tie.Need-returns-2
 unfolding booksVerdict
 returns-2 c = rw (← (c .before .before .first-disagreeing .ensures)) (passes _ (le-ltb _ _ (c .before .if1 .left)) (fires _ (le-leb _ _ (c .if2 .taken))))
 
--- src/checks.rt:68:1
 returns-3 : tie.Need-returns-3
 unfolding booksVerdict
 returns-3 c = rw (← (c .before .before .first-disagreeing .ensures)) (passes _ (le-ltb _ _ (c .before .if1 .left)) (passes _ (lt-leb 1000000 (c .before .before .before .before .before .before .before .args .calls) (omega arith)) refl))

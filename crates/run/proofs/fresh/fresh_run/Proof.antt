@@ -1,25 +1,20 @@
-use mathlib.Core.Path.{_≡_, sym, ap}
-use Rattle.run.specs.Runs.{freshRun}
+-- `fresh_run` meets its contract, by the cases of the verdict. Assumes nothing.
+use mathlib.Core.Path.{sym, ap}
 use borrow.Author.Needs.{needs}
+use Rattle.run.specs.Runs.{freshRun}
 use Rattle.run.proofs.fresh.fresh_run.Statement.{statement}
 use Rattle.run.proofs.fresh.fresh_run.Tie as tie
-use Rattle.run.proofs.fresh.fresh_run.Reads as reads
-use Rattle.run.proofs.fresh.fresh_run.Lts as lts
 
--- src/fresh.rt:77:30
 enum-told : tie.Need-enum-told
 enum-told c = search needs
 
--- src/fresh.rt:85:44
 enum-told-2 : tie.Need-enum-told-2
 enum-told-2 c = search needs
 
--- src/fresh.rt:73:1
 returns : tie.Need-returns
 unfolding freshRun
 returns c = let a = c .before .before .args in ap (freshRun (a .old) (a .nodes) (a .slots) (a .limit) (a .rule)) (sym (c .enum-told .given .1))
 
--- src/fresh.rt:73:1
 returns-2 : tie.Need-returns-2
 unfolding freshRun
 returns-2 c = let a = c .before .before .args in ap (freshRun (a .old) (a .nodes) (a .slots) (a .limit) (a .rule)) (sym (c .enum-told2 .given .1))

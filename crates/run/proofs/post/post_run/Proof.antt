@@ -1,30 +1,24 @@
+-- `post_run` meets its contract, by the cases of the verdict. Assumes nothing.
 use native.Mathlib.Omega.{arith}
-use mathlib.Core.Path.{_≡_, sym, ap}
-use Rattle.run.specs.Runs.{postRun}
+use mathlib.Core.Path.{sym, ap}
 use borrow.Author.Needs.{needs}
+use Rattle.run.specs.Runs.{postRun}
 use Rattle.run.proofs.post.post_run.Statement.{statement}
 use Rattle.run.proofs.post.post_run.Tie as tie
-use Rattle.run.proofs.post.post_run.Reads as reads
-use Rattle.run.proofs.post.post_run.Lts as lts
 
--- src/post.rt:98:20
 enum-told : tie.Need-enum-told
 enum-told c = search needs
 
--- src/post.rt:98:20
 add-t4 : tie.Need-add-t4
 add-t4 c = omega (arith, c .before .before .before .pre (c .before .enum-told .given .1))
 
--- src/post.rt:101:44
 enum-told-2 : tie.Need-enum-told-2
 enum-told-2 c = search needs
 
--- src/post.rt:88:1
 returns : tie.Need-returns
 unfolding postRun
 returns c = ap (postRun (c .before .before .before .args .old)) (sym (c .before .enum-told .given .1))
 
--- src/post.rt:88:1
 returns-2 : tie.Need-returns-2
 unfolding postRun
 returns-2 c = ap (postRun (c .before .before .args .old)) (sym (c .enum-told2 .given .1))

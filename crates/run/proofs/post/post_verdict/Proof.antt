@@ -1,92 +1,71 @@
+-- `post_verdict` meets its contract: the shared checks and its own, in their order. Assumes nothing.
 use native.Mathlib.Omega.{arith}
-use mathlib.Core.Path.{_≡_, refl, sym, _∙_}
+use mathlib.Core.Path.{sym, _∙_}
 use borrow.Author.Tests.{lt-ltb, le-ltb}
+use borrow.Author.Needs.{needs}
 use Rattle.sums.proofs.Tables.{mul-small}
 use Rattle.star.proofs.RefusalLaws.{fires, passes}
-use Rattle.run.proofs.Verdicts.{ranges-fire, ranges-pass, ranged, books-fire, books-pass, long-tables}
 use Rattle.run.specs.Runs.{postVerdict}
-use borrow.Author.Needs.{needs}
+use Rattle.run.proofs.Verdicts.{ranges-fire, ranges-pass, ranged, books-fire, books-pass, long-tables}
 use Rattle.run.proofs.post.post_verdict.Statement.{statement}
 use Rattle.run.proofs.post.post_verdict.Tie as tie
-use Rattle.run.proofs.post.post_verdict.Reads as reads
-use Rattle.run.proofs.post.post_verdict.Lts as lts
-use Rattle.run.proofs.checks.books.Reads as books-reads
-use Rattle.run.proofs.checks.ranges.Reads as ranges-reads
-use Rattle.run.proofs.checks.short.Reads as short-reads
-use Rattle.star.proofs.lines.first_above.Reads as first-above-reads
 
--- src/post.rt:26:9
 ranges-requires : tie.Need-ranges-requires
 ranges-requires c κs = search needs
 
 enum-told : tie.Need-enum-told
 enum-told c = search needs
 
--- src/post.rt:28:9
 enum-told-2 : tie.Need-enum-told-2
 enum-told-2 c = search needs
 
--- src/post.rt:28:9
 returns : tie.Need-returns
 unfolding postVerdict
 returns c = let o = c .before .before .before .before .before .before .before .before .args .old in ranges-fire (o .nodes) (o .slots) (o .rule) (o .limit) _ (c .before .before .ranges .ensures) (c .enum-told2 .given .1)
 
--- src/post.rt:30:13
 cast-n : tie.Need-cast-n
 cast-n c = search needs
 
--- src/post.rt:31:25
 mul-if1 : tie.Need-mul-if1
 mul-if1 c = let o = c .before .before .before .before .before .before .before .before .before .args .old in let g = ranged (o .nodes) (o .slots) (o .rule) (o .limit) (c .before .before .before .ranges .ensures) (c .before .enum-told .given .1) in omega (arith, mul-small (o .nodes) (o .nodes) (g .nodes) (g .nodes))
 
--- src/post.rt:32:9
 returns-2 : tie.Need-returns-2
 unfolding postVerdict
 returns-2 c = let o = c .before .before .before .before .before .before .before .before .before .before .args .old in ranges-pass (o .nodes) (o .slots) (o .rule) (o .limit) (c .before .before .before .before .ranges .ensures) (c .before .before .enum-told .given .1) (fires _ (lt-ltb _ _ (c .if1 .taken)))
 
--- src/post.rt:36:8
 short-requires : tie.Need-short-requires
 short-requires c κs = let o = c .before .before .before .before .before .before .before .before .before .before .args .old in ranged (o .nodes) (o .slots) (o .rule) (o .limit) (c .before .before .before .before .ranges .ensures) (c .before .before .enum-told .given .1) .nodes
 
--- src/post.rt:37:9
 returns-3 : tie.Need-returns-3
 unfolding postVerdict
 returns-3 c = let o = c .before .before .before .before .before .before .before .before .before .before .before .before .args .old in ranges-pass (o .nodes) (o .slots) (o .rule) (o .limit) (c .before .before .before .before .before .before .ranges .ensures) (c .before .before .before .before .enum-told .given .1) (passes _ (le-ltb _ _ (c .before .before .if1 .left)) (fires _ (sym (c .before .short .ensures) ∙ c .if2 .taken)))
 
--- src/post.rt:41:9
 books-requires : tie.Need-books-requires
 books-requires c κs = let a = c .before .before .before .before .before .before .before .before .before .before .before .before .args in let o = a .old in let g = ranged (o .nodes) (o .slots) (o .rule) (o .limit) (c .before .before .before .before .before .before .ranges .ensures) (c .before .before .before .before .enum-told .given .1) in long-tables (o .nodes) (a .waiting .now) (a .posted .now) (a .sent .now) (a .dropped .now) (g .nodes) (sym (c .before .short .ensures) ∙ c .if2 .left)
 
 enum-told-3 : tie.Need-enum-told-3
 enum-told-3 c = search needs
 
--- src/post.rt:52:9
 enum-told-4 : tie.Need-enum-told-4
 enum-told-4 c = search needs
 
--- src/post.rt:52:9
 returns-4 : tie.Need-returns-4
 unfolding postVerdict
 returns-4 c = let a = c .before .before .before .before .before .before .before .before .before .before .before .before .before .before .before .args in let o = a .old in ranges-pass (o .nodes) (o .slots) (o .rule) (o .limit) (c .before .before .before .before .before .before .before .before .before .ranges .ensures) (c .before .before .before .before .before .before .before .enum-told .given .1) (passes _ (le-ltb _ _ (c .before .before .before .before .before .if1 .left)) (passes _ (sym (c .before .before .before .before .short .ensures) ∙ c .before .before .before .if2 .left) (books-fire (o .nodes) (o .limit) (o .posts) (o .posts) (a .waiting .now) (a .posted .now) (a .sent .now) (a .dropped .now) _ (c .before .before .books .ensures) (c .enum-told4 .given .1))))
 
--- src/post.rt:54:9
 first-above-requires : tie.Need-first-above-requires
 first-above-requires c κs = let o = c .before .before .before .before .before .before .before .before .before .before .before .before .before .before .before .args .old in let g = ranged (o .nodes) (o .slots) (o .rule) (o .limit) (c .before .before .before .before .before .before .before .before .before .ranges .ensures) (c .before .before .before .before .before .before .before .enum-told .given .1) in record { nodes = g .nodes; cells = c .before .before .before .before .before .if1 .left }
 
--- src/post.rt:55:16
 mul-if3 : tie.Need-mul-if3
 mul-if3 c = let o = c .before .before .before .before .before .before .before .before .before .before .before .before .before .before .before .before .args .old in let g = ranged (o .nodes) (o .slots) (o .rule) (o .limit) (c .before .before .before .before .before .before .before .before .before .before .ranges .ensures) (c .before .before .before .before .before .before .before .before .enum-told .given .1) in omega (arith, mul-small (o .nodes) (o .nodes) (g .nodes) (g .nodes))
 
--- src/post.rt:57:51
 cast-t19 : tie.Need-cast-t19
 cast-t19 c = let o = c .before .before .before .before .before .before .before .before .before .before .before .before .before .before .before .before .before .args .old in let g = ranged (o .nodes) (o .slots) (o .rule) (o .limit) (c .before .before .before .before .before .before .before .before .before .before .before .ranges .ensures) (c .before .before .before .before .before .before .before .before .before .enum-told .given .1) in omega (arith, mul-small (o .nodes) (o .nodes) (g .nodes) (g .nodes))
 
--- src/post.rt:56:9
 returns-5 : tie.Need-returns-5
 unfolding postVerdict
 returns-5 c = let a = c .before .before .before .before .before .before .before .before .before .before .before .before .before .before .before .before .before .args in let o = a .old in ranges-pass (o .nodes) (o .slots) (o .rule) (o .limit) (c .before .before .before .before .before .before .before .before .before .before .before .ranges .ensures) (c .before .before .before .before .before .before .before .before .before .enum-told .given .1) (passes _ (le-ltb _ _ (c .before .before .before .before .before .before .before .if1 .left)) (passes _ (sym (c .before .before .before .before .before .before .short .ensures) ∙ c .before .before .before .before .before .if2 .left) (books-pass (o .nodes) (o .limit) (o .posts) (o .posts) (a .waiting .now) (a .posted .now) (a .sent .now) (a .dropped .now) (c .before .before .before .before .books .ensures) (c .before .before .enum-told3 .given .1) (rw (← (c .before .first-above .ensures)) (fires _ (lt-ltb _ _ (c .if3 .taken)))))))
 
--- src/post.rt:16:1
 returns-6 : tie.Need-returns-6
 unfolding postVerdict
 returns-6 c = let a = c .before .before .before .before .before .before .before .before .before .before .before .before .before .before .before .before .before .args in let o = a .old in ranges-pass (o .nodes) (o .slots) (o .rule) (o .limit) (c .before .before .before .before .before .before .before .before .before .before .before .ranges .ensures) (c .before .before .before .before .before .before .before .before .before .enum-told .given .1) (passes _ (le-ltb _ _ (c .before .before .before .before .before .before .before .if1 .left)) (passes _ (sym (c .before .before .before .before .before .before .short .ensures) ∙ c .before .before .before .before .before .if2 .left) (books-pass (o .nodes) (o .limit) (o .posts) (o .posts) (a .waiting .now) (a .posted .now) (a .sent .now) (a .dropped .now) (c .before .before .before .before .books .ensures) (c .before .before .enum-told3 .given .1) (rw (← (c .before .first-above .ensures)) (passes _ (le-ltb _ _ (c .if3 .left)) (c .before .before .enum-told3 .given .1))))))
