@@ -33,7 +33,7 @@ shared-slice-read-amounts : tie.Need-shared-slice-read-amounts Inv-loop μ-loop
 shared-slice-read-amounts c = omega arith
 
 cast-amounts : tie.Need-cast-amounts Inv-loop μ-loop
-cast-amounts c = omega (arith, c .before .before .before .before .pre .fits (c .before .before .before .loop .p) (omega arith))
+cast-amounts c = omega (arith, c .shared-slice-known .given (c .before .before .before .loop .p))
 
 add-amounts : tie.Need-add-amounts Inv-loop μ-loop
 add-amounts c = omega (arith, filled-next (c .before .before .before .loop .inv .2) (omega arith), c .before .before .before .before .pre .fits (c .before .before .before .loop .p) (omega arith))
