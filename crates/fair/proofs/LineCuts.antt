@@ -83,7 +83,7 @@ module _ (n : ℕ) (cap : List ℕ) (s : Cutting) (ℓ : ℕ) (at : ℓ < length
   or-pairs false false c d = refl
 
   -- a pair is modified afterwards where it was, or lies on the line
-  modified-after : (i j : ℕ) → modified n (cutLine n cap s ℓ) i j ≡ (modified n s i j || (eqb i ℓ || eqb (n + j) ℓ))
+  pub modified-after : (i j : ℕ) → modified n (cutLine n cap s ℓ) i j ≡ (modified n s i j || (eqb i ℓ || eqb (n + j) ℓ))
   unfolding modified cutLine
   modified-after i j =
       ap₂ _||_ (flag-after i) (flag-after (n + j))

@@ -86,7 +86,7 @@ module _ {n : ℕ} {s : Cutting} {a b : List ℕ} {ℓ p q : ℕ} {v' a' b' : Li
   next-sums = P .beside (crossing n ℓ t) (λ u h e. let q : u ≡ t = crossing-once n ℓ u t e in omega arith)
 
   module _ (uncut : getD (s .done) ℓ 0 ≡ 0) where
-    -- a modified cell is passed
+    -- a modified cell is other-line-passes
     pub partway-pass : 0 < getD (s .done) (crossing n ℓ t) 0 → Partway n s a b ℓ p q v' a' b' (t + 1) sum
     partway-pass cut =
         let none : looseOn n s ℓ t ≡ 0 = closed-loose n s ℓ uncut t cut in

@@ -13,9 +13,9 @@ use Rattle.star.specs.Tables.{Demands}
 use Rattle.star.specs.Lines.{onLine, lineSum}
 use Rattle.star.proofs.LineLaws.{on-line-most}
 use Rattle.fair.specs.Fair.{taken, cutLine, step, steps, uncut, fairKept}
-use Rattle.fair.specs.Cuts.{cutting, Counted, Sound, Comparable, Next, CanCutLine, LineCut, CanCutAll, CanCutExactly}
+use Rattle.fair.specs.Cuts.{cutting, Counted, Sound, Comparable, Next, CanCutLine, LineCut, CanCutAll, CanCutExactly, Summed}
 use Rattle.fair.proofs.LineCuts.{line-split}
-use Rattle.fair.proofs.Steps.{steps-sound, steps-below, steps-shrink, steps-still, step-cuts, found, uncut-a, uncut-b}
+use Rattle.fair.proofs.Steps.{steps-sound, steps-below, steps-shrink, steps-still, step-cuts, taken-is-least, uncut-a, uncut-b}
 
 -- ---- tables of demands
 -- a table of n * n cells is the square of its cells
@@ -90,7 +90,7 @@ module _ (n : ℕ) (cap d done₀ a₀ b₀ : List ℕ) (h : CanCutAll n cap d d
           demands = demands-below n d kept (h .demands) (rw (ap (λ s. s .values) (S .state)) (steps-below n cap d k));
           counted = S .counted;
           sound = stepped-sound;
-          least = rw is (found n cap (cutting kept done) stepped-sound (omega (arith, is)));
+          least = rw is (taken-is-least n cap (cutting kept done) stepped-sound (omega (arith, is)));
         }
 
         pub stepped-more : {kept' done' a' b' : List ℕ} → k < 2 * n → LineCut n cap kept done a b ℓ kept' done' a' b' → Stepped n cap d kept' done' a' b' (k + 1)
@@ -126,7 +126,7 @@ module _ (n : ℕ) (cap d kept done : List ℕ) (h : CanCutExactly n cap d kept 
   unfolding uncut
   copied-uncut = ap₂ cutting copied-square (h .none)
 
-  pub can-cut-all : (a b : List ℕ) → 128 ≤ length a → ((ℓ : ℕ) → ℓ < 2 * n → getD a ℓ 0 ≡ lineSum n d ℓ) → b ≡ replicate 128 0 → CanCutAll n cap copied done a b
+  pub can-cut-all : (a b : List ℕ) → 128 ≤ length a → Summed n d a → b ≡ replicate 128 0 → CanCutAll n cap copied done a b
   can-cut-all a b la sums zeros = record {
     nodes = h .square .nodes;
     capacities = h .capacities;
@@ -135,7 +135,7 @@ module _ (n : ℕ) (cap d kept done : List ℕ) (h : CanCutExactly n cap d kept 
     none = h .none;
     counted = rw copied-uncut (record {
       room = (omega (arith, h .square .nodes), rw (zeros, length-replicate {A = ℕ} 128 0) (omega (arith, h .square .nodes)));
-      unmodified = λ ℓ hl. sums ℓ hl ∙ sym (uncut-a n d ℓ hl);
+      unmodified = λ ℓ hl. sums .lines ℓ hl ∙ sym (uncut-a n d ℓ hl);
       modified = λ ℓ hl. rw (zeros, getD-replicate {A = ℕ} 128 ℓ 0 0 (omega (arith, h .square .nodes))) (sym (uncut-b n d ℓ hl));
     });
   }

@@ -49,11 +49,11 @@ module _ (n : ℕ) (cap : List ℕ) (s : Cutting) (h : Sound n cap s) where
     over-uncut = by-lt 0 (getD (s .done) m 0) (λ k. absurd (omega (arith, h .closed m hm k))) (λ k. omega arith)
 
   -- the line that is taken, if there is one
-  pub found : taken n cap s (2 * n) < 2 * n → Least n cap s (2 * n) (taken n cap s (2 * n))
-  found = taken-least n cap s over-some
+  pub taken-is-least : taken n cap s (2 * n) < 2 * n → Least n cap s (2 * n) (taken n cap s (2 * n))
+  taken-is-least = taken-least n cap s over-some
 
-  pub found-none : 2 * n ≤ taken n cap s (2 * n) → Quiet n cap s (2 * n)
-  found-none = taken-none n cap s over-some
+  pub none-taken-none-over : 2 * n ≤ taken n cap s (2 * n) → Quiet n cap s (2 * n)
+  none-taken-none-over = taken-none n cap s over-some
 
   -- ---- the line with the least fraction is cut
   module _ (ℓ : ℕ) (γ : Least n cap s (2 * n) ℓ) where
@@ -64,9 +64,9 @@ module _ (n : ℕ) (cap : List ℕ) (s : Cutting) (h : Sound n cap s) where
     proper = omega (arith, over-proper ℓ (γ .line) (γ .over))
 
     -- it ends at most at its capacity
-    pub own-fits : lineSum n (cutLine n cap s ℓ .values) ℓ ≤ getD cap ℓ 0
+    pub cut-line-fits : lineSum n (cutLine n cap s ℓ .values) ℓ ≤ getD cap ℓ 0
     unfolding numerator
-    own-fits =
+    cut-line-fits =
         omega (
           arith,
           line-split n (cutLine n cap s ℓ) ℓ,
@@ -77,8 +77,8 @@ module _ (n : ℕ) (cap : List ℕ) (s : Cutting) (h : Sound n cap s) where
         )
 
     -- any other line
-    pub passed : (m : ℕ) → m < 2 * n → (m ≡ ℓ → ⊥) → Passed (numerator n cap s ℓ) (unmodifiedSum n s ℓ) (unmodifiedSum n s m) (modifiedSum n s m) (unmodifiedSum n (cutLine n cap s ℓ) m) (modifiedSum n (cutLine n cap s ℓ) m)
-    passed m hm ne =
+    pub other-line-passes : (m : ℕ) → m < 2 * n → (m ≡ ℓ → ⊥) → Passed (numerator n cap s ℓ) (unmodifiedSum n s ℓ) (unmodifiedSum n s m) (modifiedSum n s m) (unmodifiedSum n (cutLine n cap s ℓ) m) (modifiedSum n (cutLine n cap s ℓ) m)
+    other-line-passes m hm ne =
         ⊎-elim
         (λ (x : Meet n ℓ m). record {
           v = looseOn n s ℓ (x .w);
@@ -116,7 +116,7 @@ module _ (n : ℕ) (cap : List ℕ) (s : Cutting) (h : Sound n cap s) where
     passed-within m hm ne =
         by-lt (getD cap m 0) (lineSum n (s .values) m)
         (λ over.
-        let x = passed m hm ne in
+        let x = other-line-passes m hm ne in
         omega (
           arith,
           x,
@@ -142,8 +142,8 @@ module _ (n : ℕ) (cap : List ℕ) (s : Cutting) (h : Sound n cap s) where
     cut-sound = record {
       cells = cut-lengths .0;
       flags = cut-lengths .1;
-      within = λ m hm. by-eq m ℓ (λ e. rw e (omega (arith, own-fits, line-split n (cutLine n cap s ℓ) ℓ))) (passed-within m hm);
-      closed = λ m hm f. by-eq m ℓ (λ e. rw e own-fits) (λ ne. omega (arith, line-shrinks m hm, h .closed m hm (omega (arith, flag-kept m ne))));
+      within = λ m hm. by-eq m ℓ (λ e. rw e (omega (arith, cut-line-fits, line-split n (cutLine n cap s ℓ) ℓ))) (passed-within m hm);
+      closed = λ m hm f. by-eq m ℓ (λ e. rw e cut-line-fits) (λ ne. omega (arith, line-shrinks m hm, h .closed m hm (omega (arith, flag-kept m ne))));
     }
 
 -- ---- steps
@@ -175,7 +175,7 @@ steps-keep n cap s P h p cut zero = (h, p)
 steps-keep n cap s P h p cut (suc m) =
     let was : Sound n cap (steps n cap s m) × P (steps n cap s m) = steps-keep n cap s P h p cut m in
     by-lt (taken n cap (steps n cap s m) (2 * n)) (2 * n)
-    (λ lt. rw (step-cuts n cap (steps n cap s m) lt) (cut-sound n cap (steps n cap s m) (was .0) _ (found n cap (steps n cap s m) (was .0) lt), cut (steps n cap s m) _ (was .0) (was .1) (found n cap (steps n cap s m) (was .0) lt)))
+    (λ lt. rw (step-cuts n cap (steps n cap s m) lt) (cut-sound n cap (steps n cap s m) (was .0) _ (taken-is-least n cap (steps n cap s m) (was .0) lt), cut (steps n cap s m) _ (was .0) (was .1) (taken-is-least n cap (steps n cap s m) (was .0) lt)))
     (λ ge. rw (step-still n cap (steps n cap s m) ge) was)
 
 -- ---- the start
@@ -193,7 +193,7 @@ module _ (n : ℕ) (d : List ℕ) where
   uncut-lengths = (length-square n (cell n d), length-replicate (2 * n) 0)
 
   module _ (m : ℕ) (hm : m < 2 * n) where
-    uncut-modified : (t : ℕ) → t < n → modified n (uncut n d) (sourceOn n m t) (destinationOn n m t) ≡ false
+    pub uncut-modified : (t : ℕ) → t < n → modified n (uncut n d) (sourceOn n m t) (destinationOn n m t) ≡ false
     uncut-modified t h = modified-on n (uncut n d) m t ∙ rw (uncut-flag m hm, uncut-flag (crossing n m t) (crossing-lt n m t hm h)) refl
 
     -- no cell is modified
@@ -254,10 +254,10 @@ module _ (n : ℕ) (cap : List ℕ) where
     progress (suc m) =
         by-lt (taken n cap (steps n cap (uncut n d) m) (2 * n)) (2 * n)
         (λ lt. ⊎-elim
-        (λ q. absurd (omega (arith, q .under _ lt, found n cap (steps n cap (uncut n d) m) (steps-sound m) lt .over)))
-        (λ (le : m ≤ cuts n (steps n cap (uncut n d) m)). inr (rw (step-cuts n cap (steps n cap (uncut n d) m) lt) (omega (arith, cuts-more (steps n cap (uncut n d) m) (steps-sound m) _ (found n cap (steps n cap (uncut n d) m) (steps-sound m) lt)))))
+        (λ q. absurd (omega (arith, q .under _ lt, taken-is-least n cap (steps n cap (uncut n d) m) (steps-sound m) lt .over)))
+        (λ (le : m ≤ cuts n (steps n cap (uncut n d) m)). inr (rw (step-cuts n cap (steps n cap (uncut n d) m) lt) (omega (arith, cuts-more (steps n cap (uncut n d) m) (steps-sound m) _ (taken-is-least n cap (steps n cap (uncut n d) m) (steps-sound m) lt)))))
         (progress m))
-        (λ ge. inl (rw (step-still n cap (steps n cap (uncut n d) m) ge) (found-none n cap (steps n cap (uncut n d) m) (steps-sound m) ge)))
+        (λ ge. inl (rw (step-still n cap (steps n cap (uncut n d) m) ge) (none-taken-none-over n cap (steps n cap (uncut n d) m) (steps-sound m) ge)))
 
     -- ---- what the fair rule keeps
     pub fair-length : length (fairKept n cap d) ≡ n * n

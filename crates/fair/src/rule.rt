@@ -3,13 +3,12 @@ use crate::choice::next_line;
 use crate::line::cut_line;
 use star::lines::line_sum;
 ghost use mathlib.Core.Path.{_≡_};
-ghost use Prim.Native.Nat.{ℕ, _*_, _<_, _≤_};
+ghost use Prim.Native.Nat.{_*_, _<_, _≤_};
 ghost use lib.ListN.{length, getD};
 ghost use Rattle.sums.specs.Tables.{tab, written};
 ghost use Rattle.star.specs.Tables.{Square, Demands};
-ghost use Rattle.star.specs.Lines.{lineSum};
 ghost use Rattle.fair.specs.Fair.{fairKept};
-ghost use Rattle.fair.specs.Cuts.{CanCut, CanCutExactly, CanCutAll};
+ghost use Rattle.fair.specs.Cuts.{CanCut, CanCutExactly, CanCutAll, Summed};
 
 // The demands, as many as kept has cells.
 fn copy(demand: &[u32], kept: &mut [u32])
@@ -28,7 +27,7 @@ fn line_sums(n: usize, demand: &[u32], sums: &mut [u32])
     requires { ⌜ Square n (now demand) ⌝ }
     requires { ⌜ Demands n (now demand) ⌝ }
     requires { ⌜ 2 * n ≤ length (now sums) ⌝ }
-    ensures { λ _. ⌜ ((ℓ : ℕ) → ℓ < 2 * n → getD (now (sums .exit)) ℓ 0 ≡ lineSum n (now (demand .entry)) ℓ) ⌝ }
+    ensures { λ _. ⌜ Summed n (now (demand .entry)) (now (sums .exit)) ⌝ }
 {
     let mut line = 0;
     while line < 2 * n {

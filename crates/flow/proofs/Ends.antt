@@ -2,19 +2,18 @@
 -- is reached has room the marks are closed. Only the cells needed matter. Assumes nothing.
 use Prim.Native.Nat.{ℕ, _+_, _-_, _*_, _≤_, _<_}
 use native.Mathlib.Omega.{arith}
-use mathlib.Core.Path.{_≡_, refl, sym, _∙_, ap}
+use mathlib.Core.Path.{_≡_, sym, _∙_, ap}
 use mathlib.Core.Bool.{Bool, true, false}
 use mathlib.Core.List.{List, _++_}
 use lib.ListN.{length, getD, List·getD-append}
 use lib.Dec.{ltb}
 use borrow.Author.Tests.{ltb-true, ltb-false}
-use Rattle.sums.specs.Sums.{sumTo}
 use Rattle.sums.specs.Tables.{cell}
 use Rattle.sums.proofs.Sums.{sum-all-zero}
 use Rattle.sums.proofs.Tables.{cell-lt}
 use Rattle.star.specs.Lines.{sourceOn, destinationOn, onLine, lineSum}
 use Rattle.star.proofs.LineLaws.{source-lt, destination-lt, line-ext}
-use Rattle.levels.specs.Levels.{Below, movable, seat, Searched}
+use Rattle.levels.specs.Levels.{movable, seat}
 use Rattle.levels.proofs.Crossings.{cross-row, cross-column, seat-row, seat-column, movable-row, movable-column}
 use Rattle.flow.specs.Flows.{Feasible, Closed, marked}
 use Rattle.flow.specs.Certified.{Bounded}

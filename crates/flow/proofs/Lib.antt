@@ -2,6 +2,6 @@
 pub mod Duality
 pub mod Check
 pub mod Stores
-pub mod Moves
 pub mod Takes
+pub mod Moves
 pub mod Ends

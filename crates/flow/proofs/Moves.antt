@@ -14,17 +14,18 @@ use Rattle.sums.proofs.Cases.{by-eq, by-lt}
 use Rattle.star.specs.Tables.{Demands}
 use Rattle.star.specs.Lines.{sourceOn, destinationOn, onLine, lineSum, crossing}
 use Rattle.star.proofs.LineLaws.{source-lt, destination-lt, on-row, on-column, on-line-most}
-use Rattle.levels.specs.Levels.{Below, movable, Served, Layered}
+use Rattle.levels.specs.Levels.{Below, movable, Layered}
 use Rattle.levels.proofs.Crossings.{cross-lt, cross-other, cross-row, cross-column, movable-row, movable-column}
 use Rattle.levels.proofs.Growing.{at-set}
 use Rattle.flow.specs.Draws.{span, passed, Roomy, Moved, Drawn, CanPass, CanDraw}
+use Rattle.flow.proofs.Takes.{roomy-again}
 use Rattle.flow.proofs.Stores.{apart-line, apart-sum, both-sums, store-below}
 
-pub passed-row : (n : ℕ) (a : List ℕ) (ℓ t x : ℕ) → ℓ < n → passed n a ℓ t x ≡ onLine n a ℓ t - x
+passed-row : (n : ℕ) (a : List ℕ) (ℓ t x : ℕ) → ℓ < n → passed n a ℓ t x ≡ onLine n a ℓ t - x
 unfolding passed
 passed-row n a ℓ t x h = simp (lt-ltb ℓ n h)
 
-pub passed-column : (n : ℕ) (a : List ℕ) (ℓ t x : ℕ) → n ≤ ℓ → passed n a ℓ t x ≡ onLine n a ℓ t + x
+passed-column : (n : ℕ) (a : List ℕ) (ℓ t x : ℕ) → n ≤ ℓ → passed n a ℓ t x ≡ onLine n a ℓ t + x
 unfolding passed
 passed-column n a ℓ t x h = simp (le-ltb ℓ n h)
 
@@ -38,14 +39,14 @@ unfolding passed onLine sourceOn destinationOn
 pass-column n a ℓ t x h = simp (le-ltb ℓ n h)
 
 -- what can move, in the terms of a line
-pub movable-in-row : (n : ℕ) (bound a : List ℕ) (ℓ t : ℕ) → ℓ < n → movable n bound a ℓ t ≡ onLine n a ℓ t
+movable-in-row : (n : ℕ) (bound a : List ℕ) (ℓ t : ℕ) → ℓ < n → movable n bound a ℓ t ≡ onLine n a ℓ t
 movable-in-row n bound a ℓ t h = movable-row n ℓ h bound a t ∙ sym (on-row n a ℓ t h)
 
-pub movable-in-column : (n : ℕ) (bound a : List ℕ) (ℓ t : ℕ) → n ≤ ℓ → movable n bound a ℓ t ≡ onLine n bound ℓ t - onLine n a ℓ t
+movable-in-column : (n : ℕ) (bound a : List ℕ) (ℓ t : ℕ) → n ≤ ℓ → movable n bound a ℓ t ≡ onLine n bound ℓ t - onLine n a ℓ t
 movable-in-column n bound a ℓ t h = omega (arith, movable-column n ℓ h bound a t, on-column n bound ℓ t h, on-column n a ℓ t h)
 
 -- ---- nothing drawn yet
-pub moved-none : (n : ℕ) (bound a room marks : List ℕ) (ℓ level : ℕ) → Below n bound a → Moved n bound a room marks a room marks ℓ level 0
+moved-none : (n : ℕ) (bound a room marks : List ℕ) (ℓ level : ℕ) → Below n bound a → Moved n bound a room marks a room marks ℓ level 0
 moved-none n bound a room marks ℓ level b = record {
   below = b .below;
   row = λ h. omega arith;
@@ -90,14 +91,14 @@ module _ {n : ℕ} {bound a₀ room₀ marks₀ a room marks a₁ room₁ marks�
   apart e = cross-other n ℓ hl t ht (sym e)
 
   -- the pair still has what it had
-  pub pair-kept : onLine n a₁ ℓ t ≡ onLine n a ℓ t
+  pair-kept : onLine n a₁ ℓ t ≡ onLine n a ℓ t
   pair-kept = D .cells ℓ t hl ht (omega arith) apart
 
   pub own-kept : getD marks₁ ℓ 0 ≡ level
   own-kept = D .levels ℓ hl (omega arith) apart ∙ own
 
   -- the bound of the pair
-  pub pair-most : onLine n a₁ ℓ t ≤ onLine n bound ℓ t
+  pair-most : onLine n a₁ ℓ t ≤ onLine n bound ℓ t
   unfolding onLine
   pair-most = D .below _ _ (source-lt n ℓ t hl ht) (destination-lt n ℓ t hl ht)
 
@@ -110,9 +111,10 @@ module _ {n : ℕ} {bound a₀ room₀ marks₀ a room marks a₁ room₁ marks�
   passed-most : passed n a₁ ℓ t x ≤ onLine n bound ℓ t
   passed-most = by-lt ℓ n (λ h. omega (arith, passed-row n a₁ ℓ t x h, pair-most)) (λ h. omega (arith, passed-column n a₁ ℓ t x h, column-can h))
 
-  other-span : (room′ : List ℕ) → lineSum n (set a₁ (sourceOn n ℓ t * n + destinationOn n ℓ t) (passed n a₁ ℓ t x)) (crossing n ℓ t) + getD room₁ (crossing n ℓ t) 0 ≡ span n a₀ room₀ (crossing n ℓ t)
+  -- the line below has its span again
+  other-span : lineSum n (set a₁ (sourceOn n ℓ t * n + destinationOn n ℓ t) (passed n a₁ ℓ t x)) (crossing n ℓ t) + getD room₁ (crossing n ℓ t) 0 ≡ span n a₀ room₀ (crossing n ℓ t)
   unfolding span
-  other-span room′ =
+  other-span =
       let b = both-sums n a₁ ℓ t (passed n a₁ ℓ t x) hl ht fits in
       let o = M .others (crossing n ℓ t) (cross-lt n ℓ hl t ht) (λ e. apart (sym e)) in
       by-lt ℓ n
@@ -128,7 +130,7 @@ module _ {n : ℕ} {bound a₀ room₀ marks₀ a room marks a₁ room₁ marks�
         row = λ h. omega (arith, b .0, passed-row n a₁ ℓ t x h, row-can h, D .others ℓ hl apart, M .row h);
         column = λ h. omega (arith, b .0, passed-column n a₁ ℓ t x h, D .others ℓ hl apart, M .column h);
         others = λ c q ne. by-eq c (crossing n ℓ t)
-            (λ e. rw e (other-span room))
+            (λ e. rw e other-span)
             (λ e. omega (arith, apart-sum n a₁ ℓ t (passed n a₁ ℓ t x) hl ht c q ne e, D .others c q e, M .others c q ne));
         columns = λ j q. D .columns j q ∙ M .columns j q;
         cells = λ c u q r h ne.
@@ -168,15 +170,7 @@ module _ {n : ℕ} {bound a₀ room₀ marks₀ a room marks : List ℕ} {ℓ le
   -- the tables are still what a draw asks
   module _ (can : CanDraw n bound a₀ room₀ marks₀ ℓ level want) (la : length a ≡ length a₀) (lr : length room ≡ length room₀) where
     pub roomy-now : Roomy n bound a room
-    roomy-now = record {
-      below = record {
-        bounds = can .roomy .below .bounds;
-        cells = record { nodes = can .roomy .below .cells .nodes; cells = omega (arith, can .roomy .below .cells .cells) };
-        below = G .moved .below;
-      };
-      demands = can .roomy .demands;
-      rooms = omega (arith, can .roomy .rooms);
-    }
+    roomy-now = roomy-again (can .roomy) (G .moved .below) la lr
 
     pub can-lower : {part low : ℕ} → length marks ≡ length marks₀ → t < n → 0 < part → 1 < level → getD marks (crossing n ℓ t) 0 + 1 ≡ level → low + 1 ≡ level → CanDraw n bound a room marks (crossing n ℓ t) low part
     can-lower lm ht some up below lower = record {

@@ -5,16 +5,14 @@ use native.Mathlib.Omega.{arith}
 use mathlib.Core.Path.{_≡_, refl, sym, _∙_, ap}
 use mathlib.Core.Logic.{⊎-elim, _⊎_, inl, inr}
 use mathlib.Core.List.{List}
-use lib.ListN.{length, getD, set}
+use lib.ListN.{length, set}
 use borrow.Author.Tests.{lt-ltb, le-ltb}
-use Rattle.sums.specs.Sums.{sumTo}
 use Rattle.sums.specs.Tables.{cell}
 use Rattle.sums.proofs.Sums.{sum-ext, sum-update}
 use Rattle.sums.proofs.Cases.{by-eq, by-lt}
 use Rattle.sums.proofs.Tables.{cell-lt, set-here, set-row, set-col}
 use Rattle.star.specs.Lines.{sourceOn, destinationOn, onLine, lineSum, crossing}
 use Rattle.star.proofs.LineLaws.{on-row, on-column, row-sum, column-sum, source-lt, destination-lt}
-use Rattle.levels.proofs.Crossings.{cross-row, cross-column}
 
 -- ---- by row and column
 module _ (n : ℕ) (a : List ℕ) (i j v : ℕ) (hi : i < n) (hj : j < n) where

@@ -2,16 +2,15 @@
 -- and where nothing was taken nothing has changed. Assumes nothing.
 use Prim.Native.Nat.{ℕ, max, _+_, _-_, _*_, _≤_, _<_}
 use native.Mathlib.Omega.{arith}
-use mathlib.Core.Path.{_≡_, refl, sym, _∙_, ap}
+use mathlib.Core.Path.{_≡_, refl, _∙_}
 use mathlib.Core.List.{List}
 use lib.ListN.{length, getD, set, length-set}
 use lib.Seq.{getD-set-same, getD-set-other}
 use Rattle.sums.specs.Tables.{cell}
 use Rattle.sums.proofs.Sums.{sum-update}
 use Rattle.sums.proofs.Cases.{by-eq, by-lt}
-use Rattle.star.specs.Lines.{lineSum}
-use Rattle.levels.specs.Levels.{Below, Layered, Searched}
-use Rattle.flow.specs.Draws.{span, columnRoom, Roomy, Kept, Drawn, Idle, Took, Full}
+use Rattle.levels.specs.Levels.{Below, Searched}
+use Rattle.flow.specs.Draws.{span, columnRoom, Roomy, Kept, Drawn, Took, Full}
 use Rattle.flow.proofs.Stores.{store-row, store-column, store-sum, store-below}
 
 -- ---- spans that are kept
@@ -21,16 +20,20 @@ kept-none n bound a room b = record { below = b .below; spans = λ ℓ q. refl }
 pub kept-join : {n : ℕ} {bound a room a₁ room₁ a₂ room₂ : List ℕ} → Kept n bound a room a₁ room₁ → Kept n bound a₁ room₁ a₂ room₂ → Kept n bound a room a₂ room₂
 kept-join k l = record { below = l .below; spans = λ ℓ q. l .spans ℓ q ∙ k .spans ℓ q }
 
-pub roomy-kept : {n : ℕ} {bound a room a′ room′ : List ℕ} → Roomy n bound a room → Kept n bound a room a′ room′ → length a′ ≡ length a → length room′ ≡ length room → Roomy n bound a′ room′
-roomy-kept r k la lr = record {
-  below = record { bounds = r .below .bounds; cells = record { nodes = r .below .cells .nodes; cells = omega (arith, r .below .cells .cells) }; below = k .below };
+-- tables of the same lengths, with a matrix that is below its bound again
+pub roomy-again : {n : ℕ} {bound a room a′ room′ : List ℕ} → Roomy n bound a room → ((i j : ℕ) → i < n → j < n → cell n a′ i j ≤ cell n bound i j) → length a′ ≡ length a → length room′ ≡ length room → Roomy n bound a′ room′
+roomy-again r below la lr = record {
+  below = record { bounds = r .below .bounds; cells = record { nodes = r .below .cells .nodes; cells = omega (arith, r .below .cells .cells) }; below = below };
   demands = r .demands;
   rooms = omega (arith, r .rooms);
 }
 
+pub roomy-kept : {n : ℕ} {bound a room a′ room′ : List ℕ} → Roomy n bound a room → Kept n bound a room a′ room′ → length a′ ≡ length a → length room′ ≡ length room → Roomy n bound a′ room′
+roomy-kept r k la lr = roomy-again r (k .below) la lr
+
 -- ---- a cell is filled
 module _ (n : ℕ) (bound a room : List ℕ) (i j x : ℕ) (r : Roomy n bound a room) (hi : i < n) (hj : j < n) (most : cell n a i j + x ≤ cell n bound i j) (row : x ≤ getD room i 0) (column : x ≤ getD room (n + j) 0) where
-  pub left-column : getD (set room i (getD room i 0 - x)) (n + j) 0 ≡ getD room (n + j) 0
+  left-column : getD (set room i (getD room i 0 - x)) (n + j) 0 ≡ getD room (n + j) 0
   left-column = getD-set-other room i (n + j) (getD room i 0 - x) 0 (λ e. omega arith)
 
   pub kept-fill : Kept n bound a room (set a (i * n + j) (cell n a i j + x)) (set (set room i (getD room i 0 - x)) (n + j) (getD (set room i (getD room i 0 - x)) (n + j) 0 - x))

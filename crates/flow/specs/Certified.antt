@@ -1,5 +1,5 @@
 -- What `largest` asks and promises. `bound` has n * n cells, `limit` and `marks` one for each of the 2N lines; longer tables are taken.
-use Prim.Native.Nat.{ℕ, _*_, _≤_, _<_}
+use Prim.Native.Nat.{ℕ, _*_, _≤_}
 use mathlib.Core.Path.{_≡_}
 use mathlib.Core.List.{List}
 use lib.ListN.{length, drop}

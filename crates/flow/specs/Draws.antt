@@ -76,14 +76,14 @@ pub record Drawn (n : ℕ) (bound a room marks a' room' marks' : List ℕ) (ℓ 
   pub most : x ≤ want
   pub first : Layered n bound a room marks → 0 < x
 
--- nothing was done, since the columns below `to` are not reached or have no room
+-- nothing was done, since each column from `from` up to `to` is not reached or has no room
 pub record Idle (n : ℕ) (a room marks a' room' marks' : List ℕ) (from to : ℕ) : Type 0 where
   pub cells : a' ≡ a
   pub rooms : room' ≡ room
   pub levels : marks' ≡ marks
   pub full : (j : ℕ) → from ≤ j → j < to → 0 < getD marks (n + j) 0 → getD room (n + j) 0 ≡ 0
 
--- the columns from one to another, below `to`, took x: nothing only where the levels lead nowhere, or none of them can
+-- the columns from `from` up to `to` took at least x from their room; where x is 0, and the levels led down to rows with room, nothing was done
 pub record Took (n : ℕ) (bound a room marks a' room' marks' : List ℕ) (from to x : ℕ) : Type 0 where
   pub kept : Kept n bound a room a' room'
   pub rows : (c : ℕ) → c < 2 * n → getD marks' c 0 ≡ 1 → getD marks c 0 ≡ 1

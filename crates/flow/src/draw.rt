@@ -1,16 +1,18 @@
 // A matrix grows by drawing: a column that is reached and has room takes more of a row one level below, that row takes as much back from a
 // column one level below, and so on down to a row with room. Levels are searched anew when every column has drawn all that it could.
-use crate::numbers::{larger, smaller};
-use levels::pairs::{can_move, cross};
+use crate::numbers::larger;
+use crate::numbers::smaller;
+use levels::pairs::can_move;
+use levels::pairs::cross;
 use levels::search::search;
-use star::tables::{get, put};
+use star::tables::get;
+use star::tables::put;
 ghost use mathlib.Core.Path.{_≡_};
-ghost use mathlib.Core.Bool.{cond};
 ghost use Prim.Native.Nat.{ℕ, min, _+_, _-_, _*_, _<_, _≤_};
 ghost use lib.ListN.{length, getD, set};
 ghost use Rattle.star.specs.Tables.{Square};
 ghost use Rattle.star.specs.Lines.{sourceOn, destinationOn};
-ghost use Rattle.levels.specs.Levels.{Below, Layered, Searched};
+ghost use Rattle.levels.specs.Levels.{Below};
 ghost use Rattle.flow.specs.Draws.{Roomy, CanPass, passed, Drawable, CanDraw, Drawn, Took, Full};
 
 // Passes x into a line at its t-th pair.
@@ -27,7 +29,16 @@ fn pass(n: usize, a: &mut [u32], line: usize, t: usize, x: u32)
 }
 
 // How much of what is wanted can be drawn through the t-th pair of a line.
-fn drawable(n: usize, bound: &[u32], a: &[u32], marks: &[u8], line: usize, level: u8, t: usize, want: u32) -> u32
+fn drawable(
+    n: usize,
+    bound: &[u32],
+    a: &[u32],
+    marks: &[u8],
+    line: usize,
+    level: u8,
+    t: usize,
+    want: u32,
+) -> u32
     requires { ⌜ Below n (now bound) (now a) ⌝ }
     requires { ⌜ (2 * n ≤ length (now marks)) × (line < 2 * n) × (t < n) × (0 < level) × (0 < want) ⌝ }
     ensures { λ r. ⌜ Drawable n (now (bound .entry)) (now (a .entry)) (now (marks .entry)) line level t want r ⌝ }
@@ -51,7 +62,16 @@ fn draw_own(room: &mut [u32], line: usize, want: u32) -> u32
 
 // Draws what is wanted from a line of this level, as far as the levels below it have it, and says how much. A line that has no more loses its
 // mark, so that nobody asks it again.
-fn draw(n: usize, bound: &[u32], a: &mut [u32], room: &mut [u32], marks: &mut [u8], line: usize, level: u8, want: u32) -> u32
+fn draw(
+    n: usize,
+    bound: &[u32],
+    a: &mut [u32],
+    room: &mut [u32],
+    marks: &mut [u8],
+    line: usize,
+    level: u8,
+    want: u32,
+) -> u32
     requires { ⌜ CanDraw n (now bound) (now a) (now room) (now marks) line level want ⌝ }
     ensures { λ r. ⌜ Drawn n (now (bound .entry)) (now (a .entry)) (now (room .entry)) (now (marks .entry)) (now (a .exit)) (now (room .exit)) (now (marks .exit)) line level want r ⌝ }
 {

@@ -1,9 +1,10 @@
 // A first matrix: each cell gets what its bound and the room of its two lines allow. Row i begins at column i, so that the rows do not all
 // spend the first columns' room.
 use crate::numbers::smaller;
-use star::tables::{get, put};
+use star::tables::get;
+use star::tables::put;
 ghost use mathlib.Core.Path.{_≡_};
-ghost use Prim.Native.Nat.{ℕ, _+_, _*_, _<_, _≤_};
+ghost use Prim.Native.Nat.{ℕ, _+_, _<_, _≤_};
 ghost use lib.ListN.{length, getD};
 ghost use Rattle.flow.specs.Draws.{Roomy, Kept};
 

@@ -2,16 +2,25 @@
 mod draw;
 mod fill;
 mod numbers;
+
 use crate::draw::grow;
-use crate::fill::{clear, copy, fill};
+use crate::fill::clear;
+use crate::fill::copy;
+use crate::fill::fill;
 ghost use Prim.Native.Nat.{_*_, _≤_};
 ghost use lib.ListN.{length};
-ghost use mathlib.Core.Path.{_≡_};
 ghost use Rattle.flow.specs.Flows.{Feasible, Closed};
 ghost use Rattle.flow.specs.Certified.{Bounded, Certified};
 
 // The same on a matrix and marks of just the cells needed, with a table for the rooms.
-fn largest_on(n: usize, bound: &[u32], limit: &[u32], a: &mut [u32], room: &mut [u32], marks: &mut [u8])
+fn largest_on(
+    n: usize,
+    bound: &[u32],
+    limit: &[u32],
+    a: &mut [u32],
+    room: &mut [u32],
+    marks: &mut [u8],
+)
     requires { ⌜ Bounded n (now bound) (now limit) (now a) (now marks) ⌝ }
     requires { ⌜ 2 * n ≤ length (now room) ⌝ }
     ensures { λ _. ⌜ Feasible n (now (bound .entry)) (now (limit .entry)) (now (a .exit)) × Closed n (now (bound .entry)) (now (limit .entry)) (now (a .exit)) (now (marks .exit)) ⌝ }
@@ -31,5 +40,12 @@ pub fn largest(n: usize, bound: &[u32], limit: &[u32], a: &mut [u32], marks: &mu
     let mut room = [0u32; 128];
     let cells = n * n;
     let lines = 2 * n;
-    largest_on(n, bound, limit, &mut a[..cells], &mut room, &mut marks[..lines]);
+    largest_on(
+        n,
+        bound,
+        limit,
+        &mut a[..cells],
+        &mut room,
+        &mut marks[..lines],
+    );
 }

@@ -15,8 +15,8 @@ use Rattle.sums.proofs.Tables.{length-square, square-cell, square-ext, place-sp
 use Rattle.star.specs.Tables.{Demands}
 use Rattle.star.specs.Lines.{onLine, lineSum}
 use Rattle.star.proofs.LineLaws.{on-row, on-column}
-use Rattle.least.specs.Least.{longer, shared, MeetInZero, left, keptCell, keptFrom}
-use Rattle.least.specs.Promises.{Rewritten, LineShared, CanShare, CanKeep}
+use Rattle.least.specs.Least.{longer, shared, left, keptCell, keptFrom}
+use Rattle.least.specs.Promises.{MeetInZero, Rewritten, LineShared, CanShare, CanKeep}
 use Rattle.least.proofs.Sums.{by-test}
 use Rattle.least.proofs.Lines.{in-column, line-mono}
 use Rattle.least.proofs.Remains.{length-left, left-below, shorter-is, two-longer-lines-meet-in-zero}
@@ -30,13 +30,13 @@ pub record Cutting (n : ℕ) (cap e : List ℕ) (m : ℕ) (k : List ℕ) : Type 
   pub others : (i j : ℕ) → i < n → j < n → (i < m → longer n cap e i ≡ false) → (n + j < m → longer n cap e (n + j) ≡ false) → cell n k i j ≡ cell n e i j
 
 -- numbers that are at most demands are demands
-pub demands-below : (n : ℕ) (e k : List ℕ) → ((i j : ℕ) → i < n → j < n → cell n k i j ≤ cell n e i j) → Demands n e → Demands n k
+pub demands-below : (n : ℕ) (d e : List ℕ) → Demands n d → ((i j : ℕ) → i < n → j < n → cell n e i j ≤ cell n d i j) → Demands n e
 unfolding cell
-demands-below n e k below d = record {
+demands-below n d e most below = record {
   most = λ p h.
       let at = place-split n p h in
       let less = below (p / n) (p % n) (at .0) (at .1 .0) in
-      omega (arith, d .most p h, rw (at .1 .1) at less);
+      omega (arith, most .most p h, rw (at .1 .1) at less);
 }
 
 module _ {n : ℕ} {cap e : List ℕ} where
@@ -143,7 +143,7 @@ module _ {n : ℕ} {cap d a k : List ℕ} (c : CanKeep n cap d a k) (x : List �
   front-can-share = rw front (record {
     nodes = c .demand .nodes;
     exact = length-left n d a;
-    demands = demands-below n d (left n d a) (left-below n d a) (c .demands);
+    demands = demands-below n d (left n d a) (c .demands) (left-below n d a);
     capacities = c .capacities;
     apart = two-longer-lines-meet-in-zero (c .greatest);
   })

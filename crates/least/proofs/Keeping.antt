@@ -15,7 +15,8 @@ use Rattle.sums.proofs.Cases.{by-lt}
 use Rattle.sums.proofs.Tables.{square-cell}
 use Rattle.star.specs.Lines.{onLine, lineSum, total, excess, Admissible}
 use Rattle.star.proofs.LineLaws.{on-row, on-column}
-use Rattle.least.specs.Least.{Greatest, left, longer, MeetInZero, shared, keptCell, keptFrom}
+use Rattle.least.specs.Least.{Greatest, left, longer, shared, keptCell, keptFrom}
+use Rattle.least.specs.Promises.{MeetInZero}
 use Rattle.least.proofs.Sums.{by-test}
 use Rattle.least.proofs.Lines.{in-column, line-mono, sum-lines, lines-twice}
 use Rattle.least.proofs.Remains.{left-below, left-total, excess-parts, longer-is, shorter-is, two-longer-lines-meet-in-zero}

@@ -15,7 +15,8 @@ use Rattle.sums.proofs.Cases.{by-eq, by-lt}
 use Rattle.star.specs.Lines.{onLine, sourceOn, destinationOn, lineSum, total, overflows, excess}
 use Rattle.star.proofs.LineLaws.{source-lt, destination-lt, row-sum, column-sum, total-rows, excess-is, overflows-is}
 use Rattle.flow.specs.Flows.{Feasible}
-use Rattle.least.specs.Least.{Withdrawn, Greatest, left, longer, MeetInZero}
+use Rattle.least.specs.Least.{Withdrawn, Greatest, left, longer}
+use Rattle.least.specs.Promises.{MeetInZero}
 use Rattle.least.proofs.Withdrawals.{feasible-is-withdrawn, limit-at}
 
 -- ---- E, for a withdrawn A

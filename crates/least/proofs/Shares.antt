@@ -16,9 +16,9 @@ use Rattle.sums.proofs.Cases.{by-eq, by-lt}
 use Rattle.star.specs.Lines.{onLine, lineSum}
 use Rattle.star.proofs.LineLaws.{on-line-most}
 use Rattle.least.specs.Least.{longer, share, remainder, missing, before, rank, shared}
-use Rattle.least.specs.Promises.{Line, Divided}
+use Rattle.least.specs.Promises.{Line, claim, larger, Divided}
 use Rattle.least.proofs.Sums.{by-test}
-use Rattle.least.proofs.Ranks.{larger-before, ranks-below, rank-same}
+use Rattle.least.proofs.Ranks.{larger-before, smaller-after, lower-before, higher-after, ranks-below, rank-same}
 
 module _ (n : ℕ) (cap e : List ℕ) (ℓ : ℕ) (long : getD cap ℓ 0 < lineSum n e ℓ) where
   -- ---- shares and remainders
@@ -161,6 +161,26 @@ module _ {n : ℕ} {cap e : List ℕ} {ℓ : ℕ} (on : Line n cap e ℓ) where
   pub shares-most : (m : ℕ) → m ≤ n → sumTo m (share n cap e ℓ) ≤ m * 67107840
   shares-most m h = sum-most m 67107840 (share n cap e ℓ) (λ t p. share-most t (omega arith))
 
-pub divided-shares : (n : ℕ) (cap e : List ℕ) (ℓ : ℕ) (shares remainders : List ℕ) (rest : ℕ) → Divided n cap e ℓ shares remainders rest → (t : ℕ) → t < n → getD shares t 0 + bit (ltb (rank n (λ u. getD remainders u 0) t) rest) ≡ shared n cap e ℓ t
+-- a remainder is below the sum of its line, which is below 64 × 65,536
+pub remainder-fits : (v s : ℕ) → 0 < s → s ≤ 4194240 → v % s < 4194240
+remainder-fits v s some most = omega (arith, mod-lt v some)
+
+-- of two cells the one with the larger claim comes before the other
+larger-is-before : (r : ℕ → ℕ) (u t : ℕ) → u < 64 → t < 64 → ltb (claim (r t) t) (claim (r u) u) ≡ before r u t
+unfolding claim
+larger-is-before r u t hu ht =
+    by-eq (r u) (r t)
+    (λ e. by-lt u t
+    (λ h. lt-ltb (claim (r t) t) (claim (r u) u) (omega arith) ∙ sym (lower-before r u t e h))
+    (λ h. le-ltb (claim (r t) t) (claim (r u) u) (omega arith) ∙ sym (higher-after r u t e h)))
+    (λ ne. by-lt (r t) (r u)
+    (λ h. lt-ltb (claim (r t) t) (claim (r u) u) (omega arith) ∙ sym (larger-before r u t h))
+    (λ h. le-ltb (claim (r t) t) (claim (r u) u) (omega arith) ∙ sym (smaller-after r u t (omega arith))))
+
+pub larger-claims : (n : ℕ) (r : ℕ → ℕ) (claims : List ℕ) → n ≤ 64 → ((u : ℕ) → u < n → getD claims u 0 ≡ claim (r u) u) → (t : ℕ) → t < n → larger n claims t ≡ rank n r t
+unfolding larger rank
+larger-claims n r claims few is t h = sum-ext n _ _ (λ u p. rw (is t h, is u p) (ap bit (larger-is-before r u t (omega arith) (omega arith))))
+
+pub divided-shares : (n : ℕ) (cap e : List ℕ) (ℓ : ℕ) (shares claims : List ℕ) (rest : ℕ) → n ≤ 64 → Divided n cap e ℓ shares claims rest → (t : ℕ) → t < n → getD shares t 0 + bit (ltb (larger n claims t) rest) ≡ shared n cap e ℓ t
 unfolding shared
-divided-shares n cap e ℓ shares remainders rest c t h = rw (c .each t h, rank-same n _ _ (c .remains) t h, c .lacks) refl
+divided-shares n cap e ℓ shares claims rest few c t h = rw (c .each t h, larger-claims n (remainder n cap e ℓ) claims few (c .claimed) t h, c .lacks) refl

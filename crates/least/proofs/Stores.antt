@@ -14,21 +14,21 @@ use Rattle.least.specs.Promises.{Rewritten}
 
 -- ---- the pair at a place of a line
 module _ (n ℓ t : ℕ) where
-  pub source-on-row : ℓ < n → sourceOn n ℓ t ≡ ℓ
+  pub source-row : ℓ < n → sourceOn n ℓ t ≡ ℓ
   unfolding sourceOn
-  source-on-row h = rw (lt-ltb ℓ n h) refl
+  source-row h = rw (lt-ltb ℓ n h) refl
 
-  pub destination-on-row : ℓ < n → destinationOn n ℓ t ≡ t
+  pub destination-row : ℓ < n → destinationOn n ℓ t ≡ t
   unfolding destinationOn
-  destination-on-row h = rw (lt-ltb ℓ n h) refl
+  destination-row h = rw (lt-ltb ℓ n h) refl
 
-  pub source-on-column : n ≤ ℓ → sourceOn n ℓ t ≡ t
+  pub source-column : n ≤ ℓ → sourceOn n ℓ t ≡ t
   unfolding sourceOn
-  source-on-column h = rw (le-ltb ℓ n h) refl
+  source-column h = rw (le-ltb ℓ n h) refl
 
-  pub destination-on-column : n ≤ ℓ → destinationOn n ℓ t ≡ ℓ - n
+  pub destination-column : n ≤ ℓ → destinationOn n ℓ t ≡ ℓ - n
   unfolding destinationOn
-  destination-on-column h = rw (le-ltb ℓ n h) refl
+  destination-column h = rw (le-ltb ℓ n h) refl
 
 -- ---- one store
 module _ (n ℓ t x : ℕ) (k : List ℕ) (hl : ℓ < 2 * n) (ht : t < n) where
@@ -43,15 +43,15 @@ module _ (n ℓ t x : ℕ) (k : List ℕ) (hl : ℓ < 2 * n) (ht : t < n) where
   store-other u hu ne =
       by-lt ℓ n
       (λ p. set-col n k (sourceOn n ℓ t) (destinationOn n ℓ t) x (destination-lt n ℓ t hl ht) (sourceOn n ℓ u) (destinationOn n ℓ u) (destination-lt n ℓ u hl hu)
-      (λ e. ne (omega (arith, e, destination-on-row n ℓ t p, destination-on-row n ℓ u p))))
+      (λ e. ne (omega (arith, e, destination-row n ℓ t p, destination-row n ℓ u p))))
       (λ p. set-row n k (sourceOn n ℓ t) (destinationOn n ℓ t) x (destination-lt n ℓ t hl ht) (sourceOn n ℓ u) (destinationOn n ℓ u) (destination-lt n ℓ u hl hu)
-      (λ e. ne (omega (arith, e, source-on-column n ℓ t p, source-on-column n ℓ u p))))
+      (λ e. ne (omega (arith, e, source-column n ℓ t p, source-column n ℓ u p))))
 
   pub store-off : (i j : ℕ) → j < n → (i ≡ ℓ → ⊥) → (n + j ≡ ℓ → ⊥) → cell n (set k (sourceOn n ℓ t * n + destinationOn n ℓ t) x) i j ≡ cell n k i j
   store-off i j hj ni nj =
       by-lt ℓ n
-      (λ p. set-row n k (sourceOn n ℓ t) (destinationOn n ℓ t) x (destination-lt n ℓ t hl ht) i j hj (λ e. ni (omega (arith, e, source-on-row n ℓ t p))))
-      (λ p. set-col n k (sourceOn n ℓ t) (destinationOn n ℓ t) x (destination-lt n ℓ t hl ht) i j hj (λ e. nj (omega (arith, e, destination-on-column n ℓ t p))))
+      (λ p. set-row n k (sourceOn n ℓ t) (destinationOn n ℓ t) x (destination-lt n ℓ t hl ht) i j hj (λ e. ni (omega (arith, e, source-row n ℓ t p))))
+      (λ p. set-col n k (sourceOn n ℓ t) (destinationOn n ℓ t) x (destination-lt n ℓ t hl ht) i j hj (λ e. nj (omega (arith, e, destination-column n ℓ t p))))
 
 -- ---- a line rewritten up to its m-th cell
 pub record Rewriting (n ℓ : ℕ) (f : ℕ → ℕ) (m : ℕ) (k k' : List ℕ) : Type 0 where

@@ -1,7 +1,7 @@
 -- Least rule (000 Algorithm 2; 001 section 3.2). `n` is N, `cap` has the capacity of each of the 2N lines where document 01 says L.
 use Prim.Native.Nat.{ℕ, _+_, _-_, _*_, _/_, _%_, _≤_, _<_}
 use mathlib.Core.Path.{_≡_}
-use mathlib.Core.Bool.{Bool, true, false, cond, _&&_, _||_}
+use mathlib.Core.Bool.{Bool, false, cond, _&&_, _||_}
 use mathlib.Core.List.{List}
 use lib.ListN.{getD}
 use lib.Dec.{ltb, eqb}
@@ -53,11 +53,7 @@ rank n r t = sumTo n (λ u. bit (before r u t))
 unfoldable pub shared : (n : ℕ) (cap e : List ℕ) (ℓ t : ℕ) → ℕ
 shared n cap e ℓ t = share n cap e ℓ t + bit (ltb (rank n (remainder n cap e ℓ) t) (missing n cap e ℓ))
 
--- Two lines still overflowing in E meet only in a zero cell ..
-pub record MeetInZero (n : ℕ) (cap e : List ℕ) : Type 0 where
-  pub zero : (i j : ℕ) → i < n → j < n → longer n cap e i ≡ true → longer n cap e (n + j) ≡ true → cell n e i j ≡ 0
-
--- .. so the order of lines is immaterial: here the row is looked at first. Other cells keep E.
+-- Other cells keep E. Two lines still overflowing in E meet only in a zero cell, so the order of lines is immaterial: here the row is looked at first.
 unfoldable pub keptCell : (n : ℕ) (cap e : List ℕ) (i j : ℕ) → ℕ
 keptCell n cap e i j = cond (longer n cap e i) (shared n cap e i j) (cond (longer n cap e (n + j)) (shared n cap e (n + j) i) (cell n e i j))
 

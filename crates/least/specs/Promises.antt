@@ -1,14 +1,16 @@
 -- What the functions of the least rule ask of their callers, and what they promise. `n` is N; a primed table is what the function leaves.
-use Prim.Native.Nat.{ℕ, _+_, _*_, _≤_, _<_}
+use Prim.Native.Nat.{ℕ, _+_, _-_, _*_, _≤_, _<_}
 use mathlib.Core.Path.{_≡_}
 use mathlib.Core.Bool.{true, false}
 use mathlib.Core.List.{List}
 use lib.ListN.{length, getD, drop}
+use lib.Dec.{ltb}
+use Rattle.sums.specs.Sums.{sumTo, bit}
 use Rattle.sums.specs.Tables.{cell, tab}
 use Rattle.star.specs.Tables.{Square, Demands, Capacities}
 use Rattle.star.specs.Lines.{onLine, excess}
 use Rattle.flow.specs.Flows.{Closed}
-use Rattle.least.specs.Least.{Greatest, longer, share, remainder, missing, shared, MeetInZero}
+use Rattle.least.specs.Least.{Greatest, longer, share, remainder, missing, shared}
 
 -- ---- a line of a table
 -- the cells of one line are now given by f, and every other cell is as before
@@ -23,16 +25,28 @@ pub record Line (n : ℕ) (cap e : List ℕ) (ℓ : ℕ) : Type 0 where
   pub capacities : Capacities n cap
   pub line : ℓ < 2 * n
 
--- a line too long is divided: the share and the remainder of each cell, and what is missing
-pub record Divided (n : ℕ) (cap e : List ℕ) (ℓ : ℕ) (shares remainders : List ℕ) (rest : ℕ) : Type 0 where
+-- A cell's claim to a missing slot, one number of its remainder and its index: of two cells the one with the larger claim comes before the other.
+unfoldable pub claim : (remainder t : ℕ) → ℕ
+claim r t = r * 64 + (63 - t)
+
+-- how many of n claims are larger than the t-th
+unfoldable pub larger : (n : ℕ) (claims : List ℕ) (t : ℕ) → ℕ
+larger n claims t = sumTo n (λ u. bit (ltb (getD claims t 0) (getD claims u 0)))
+
+-- a line too long is divided: the share and the claim of each cell, and what is missing
+pub record Divided (n : ℕ) (cap e : List ℕ) (ℓ : ℕ) (shares claims : List ℕ) (rest : ℕ) : Type 0 where
   pub each : (t : ℕ) → t < n → getD shares t 0 ≡ share n cap e ℓ t
-  pub remains : (t : ℕ) → t < n → getD remainders t 0 ≡ remainder n cap e ℓ t
+  pub claimed : (t : ℕ) → t < n → getD claims t 0 ≡ claim (remainder n cap e ℓ t) t
   pub lacks : rest ≡ missing n cap e ℓ
 
 -- a line too long is shared, any other is left as it is
 pub record LineShared (n : ℕ) (cap : List ℕ) (ℓ : ℕ) (k k' : List ℕ) : Type 0 where
   pub cut : longer n cap k ℓ ≡ true → Rewritten n ℓ (shared n cap k ℓ) k k'
   pub uncut : longer n cap k ℓ ≡ false → k' ≡ k
+
+-- two lines still overflowing in E meet only in a zero cell
+pub record MeetInZero (n : ℕ) (cap e : List ℕ) : Type 0 where
+  pub zero : (i j : ℕ) → i < n → j < n → longer n cap e i ≡ true → longer n cap e (n + j) ≡ true → cell n e i j ≡ 0
 
 -- E in a table of exactly n * n cells, whose lines too long meet only in zero cells
 pub record CanShare (n : ℕ) (cap e : List ℕ) : Type 0 where

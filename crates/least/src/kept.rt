@@ -3,17 +3,15 @@ use star::lines::line_sum;
 use star::lines::on_line;
 use star::tables::put;
 ghost use mathlib.Core.Path.{_≡_};
-ghost use mathlib.Core.Bool.{_&&_, _||_};
 ghost use Prim.Native.Nat.{ℕ, _+_, _*_, _<_, _≤_};
-ghost use lib.Dec.{ltb, eqb};
+ghost use lib.Dec.{ltb};
 ghost use lib.ListN.{length, getD, set};
 ghost use Rattle.sums.specs.Sums.{bit};
-ghost use Rattle.sums.specs.Tables.{written};
+ghost use Rattle.sums.specs.Tables.{square, written};
 ghost use Rattle.star.specs.Tables.{Square};
 ghost use Rattle.star.specs.Lines.{sourceOn, destinationOn, lineSum};
-ghost use Rattle.least.specs.Least.{left, rank, keptCell, keptFrom};
-ghost use Rattle.least.specs.Promises.{Rewritten, Line, Divided, LineShared, CanShare, CanKeep};
-ghost use Rattle.sums.specs.Tables.{square};
+ghost use Rattle.least.specs.Least.{left, keptCell, keptFrom};
+ghost use Rattle.least.specs.Promises.{Rewritten, Line, claim, larger, Divided, LineShared, CanShare, CanKeep};
 
 // The t-th pair of a line has x from now on.
 fn put_on_line(n: usize, table: &mut [u32], line: usize, t: usize, x: u32)
@@ -43,19 +41,27 @@ fn leave(n: usize, demand: &[u32], withdrawn: &[u32], table: &mut [u32])
     }
 }
 
-// Divides the capacity of a line too long: the share of each cell, the remainder of each, and the slots still missing.
+// A cell's claim to a missing slot: of two cells the one with the larger claim comes first. The sum of a line is at most 64 × 65,535, so it fits.
+fn claim(remainder: u32, t: usize) -> u32
+    requires { ⌜ (remainder < 4194240) × (t < 64) ⌝ }
+    ensures { λ r. ⌜ r ≡ claim remainder t ⌝ }
+{
+    remainder * 64 + (63 - t) as u32
+}
+
+// Divides the capacity of a line too long: the share of each cell, the claim of each, and the slots still missing.
 fn divide(
     n: usize,
     cap: &[u32],
     table: &[u32],
     line: usize,
     shares: &mut [u32],
-    remainders: &mut [u32],
+    claims: &mut [u32],
 ) -> u32
     requires { ⌜ Line n (now cap) (now table) line ⌝ }
-    requires { ⌜ (n ≤ length (now shares)) × (n ≤ length (now remainders)) ⌝ }
+    requires { ⌜ (n ≤ length (now shares)) × (n ≤ length (now claims)) ⌝ }
     requires { ⌜ getD (now cap) line 0 < lineSum n (now table) line ⌝ }
-    ensures { λ r. ⌜ Divided n (now (cap .entry)) (now (table .entry)) line (now (shares .exit)) (now (remainders .exit)) r ⌝ }
+    ensures { λ r. ⌜ Divided n (now (cap .entry)) (now (table .entry)) line (now (shares .exit)) (now (claims .exit)) r ⌝ }
 {
     let capacity = cap[line];
     let sum = line_sum(n, table, line);
@@ -64,42 +70,36 @@ fn divide(
     while t < n {
         let part = on_line(n, table, line, t) * capacity;
         shares[t] = part / sum;
-        remainders[t] = part % sum;
+        claims[t] = claim(part % sum, t);
         given += part / sum;
         t += 1;
     }
     capacity - given
 }
 
-// 1 if a cell comes before another: its remainder is larger, or the same and its index is lower.
-fn comes_first(remainder: u32, index: usize, other: u32, than: usize) -> u32
-    ensures { λ r. ⌜ (r ≡ bit (ltb other remainder || (eqb remainder other && ltb index than))) × (r ≤ 1) ⌝ }
+// 1 if a claim is larger than another, else 0.
+fn exceeds(one: u32, other: u32) -> u32
+    ensures { λ r. ⌜ (r ≡ bit (ltb other one)) × (r ≤ 1) ⌝ }
 {
-    if remainder > other {
-        return 1;
-    }
-    if remainder < other {
-        return 0;
-    }
-    if index < than { 1 } else { 0 }
+    if one > other { 1 } else { 0 }
 }
 
-// How many cells of a line come before cell t, given the remainder of each.
-fn rank(n: usize, remainders: &[u32], t: usize) -> u32
+// How many cells of a line come before cell t, given the claim of each: one comparison a cell, which the machine makes for several at once.
+fn rank(n: usize, claims: &[u32], t: usize) -> u32
     requires { ⌜ (n ≤ 64) × (t < n) ⌝ }
-    requires { ⌜ n ≤ length (now remainders) ⌝ }
-    ensures { λ r. ⌜ r ≡ rank n (λ u. getD (now (remainders .entry)) u 0) t ⌝ }
+    requires { ⌜ n ≤ length (now claims) ⌝ }
+    ensures { λ r. ⌜ r ≡ larger n (now (claims .entry)) t ⌝ }
 {
     let mut count: u32 = 0;
     let mut u = 0;
     while u < n {
-        count += comes_first(remainders[u], u, remainders[t], t);
+        count += exceeds(claims[u], claims[t]);
         u += 1;
     }
     count
 }
 
-// A share, and one slot more where the rank of its cell is below the number of slots missing.
+// A share, and one slot more where the rank of its cell is below the number of slots missing. A share is at most 65,535 × 1,024, so it fits.
 fn gained(share: u32, rank: u32, missing: u32) -> u32
     requires { ⌜ share ≤ 67107840 ⌝ }
     ensures { λ r. ⌜ r ≡ share + bit (ltb rank missing) ⌝ }
@@ -108,15 +108,15 @@ fn gained(share: u32, rank: u32, missing: u32) -> u32
 }
 
 // Gives each cell of a line its share, and the missing slots one each to the cells that come first.
-fn give(n: usize, table: &mut [u32], line: usize, shares: &[u32], remainders: &[u32], missing: u32)
+fn give(n: usize, table: &mut [u32], line: usize, shares: &[u32], claims: &[u32], missing: u32)
     requires { ⌜ (Square n (now table)) × (line < 2 * n) ⌝ }
-    requires { ⌜ (n ≤ length (now shares)) × (n ≤ length (now remainders)) ⌝ }
+    requires { ⌜ (n ≤ length (now shares)) × (n ≤ length (now claims)) ⌝ }
     requires { ⌜ ((t : ℕ) → t < n → getD (now shares) t 0 ≤ 67107840) ⌝ }
-    ensures { λ _. ⌜ Rewritten n line (λ t. getD (now (shares .entry)) t 0 + bit (ltb (rank n (λ u. getD (now (remainders .entry)) u 0) t) missing)) (now (table .entry)) (now (table .exit)) ⌝ }
+    ensures { λ _. ⌜ Rewritten n line (λ t. getD (now (shares .entry)) t 0 + bit (ltb (larger n (now (claims .entry)) t) missing)) (now (table .entry)) (now (table .exit)) ⌝ }
 {
     let mut t = 0;
     while t < n {
-        let kept = gained(shares[t], rank(n, remainders, t), missing);
+        let kept = gained(shares[t], rank(n, claims, t), missing);
         put_on_line(n, table, line, t, kept);
         t += 1;
     }
@@ -131,9 +131,9 @@ fn share_line(n: usize, cap: &[u32], table: &mut [u32], line: usize)
         return;
     }
     let mut shares = [0u32; 64];
-    let mut remainders = [0u32; 64];
-    let missing = divide(n, cap, table, line, &mut shares, &mut remainders);
-    give(n, table, line, &shares, &remainders, missing);
+    let mut claims = [0u32; 64];
+    let missing = divide(n, cap, table, line, &mut shares, &mut claims);
+    give(n, table, line, &shares, &claims, missing);
 }
 
 // Cuts every line of E that is too long. Two such lines meet only in a zero cell, so no cut changes a line that is to be cut later.

@@ -1,14 +1,12 @@
 -- Lines that cross: where, and what can move there; each law by the two cases of a line. Assumes nothing.
 use Prim.Native.Nat.{ℕ, _+_, _-_, _*_, _≤_, _<_}
 use native.Mathlib.Omega.{arith}
-use mathlib.Core.Path.{_≡_, refl, sym, _∙_, ap}
-use mathlib.Core.Bool.{Bool, true, false, cond}
+use mathlib.Core.Path.{_≡_, _∙_}
 use mathlib.Core.List.{List}
-use lib.Dec.{ltb}
 use borrow.Author.Tests.{lt-ltb, le-ltb}
 use Rattle.sums.specs.Tables.{cell}
 use Rattle.sums.proofs.Cases.{by-lt}
-use Rattle.star.specs.Lines.{onLine, crossing}
+use Rattle.star.specs.Lines.{crossing}
 use Rattle.star.proofs.LineLaws.{on-row, on-column}
 use Rattle.levels.specs.Levels.{movable, seat}
 

@@ -1,6 +1,6 @@
 -- A search keeps what it promises: marks once given stay, so what was said of marked lines and of lines without a mark holds on. Each law goes
 -- by whether a line was marked before. Assumes nothing.
-use Prim.Native.Nat.{ℕ, _+_, _-_, _*_, _≤_, _<_}
+use Prim.Native.Nat.{ℕ, _+_, _*_, _≤_, _<_}
 use native.Mathlib.Omega.{arith}
 use mathlib.Core.Path.{_≡_, refl, sym, _∙_, ap}
 use mathlib.Core.Logic.{⊎-elim, _⊎_, inl, inr}
@@ -8,11 +8,11 @@ use mathlib.Core.List.{List}
 use lib.ListN.{length, getD, set}
 use lib.Seq.{getD-set-same, getD-set-other}
 use borrow.Author.Count.{below-more}
-use Rattle.sums.specs.Sums.{sumTo, hit}
+use Rattle.sums.specs.Sums.{hit}
 use Rattle.sums.proofs.Sums.{sum-update, sum-one, hit-same, hit-other}
 use Rattle.sums.proofs.Cases.{by-eq, by-lt}
 use Rattle.star.specs.Lines.{crossing}
-use Rattle.levels.specs.Levels.{movable, seat, Served, Layered, Searched}
+use Rattle.levels.specs.Levels.{movable, seat, Served, Searched}
 use Rattle.levels.specs.Searches.{unmarked, Start, Started, Grown, Spent, Spread, Swept, Searching}
 use Rattle.levels.proofs.Crossings.{cross-lt, seat-lt, cross-back}
 

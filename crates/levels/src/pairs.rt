@@ -1,7 +1,7 @@
 // A pair seen from one of its two lines.
 use star::tables::get;
 ghost use mathlib.Core.Path.{_≡_};
-ghost use Prim.Native.Nat.{ℕ, _+_, _*_, _<_, _≤_};
+ghost use Prim.Native.Nat.{_+_, _*_, _<_, _≤_};
 ghost use Rattle.star.specs.Lines.{crossing};
 ghost use Rattle.levels.specs.Levels.{Below, movable, seat};
 

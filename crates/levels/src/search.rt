@@ -1,8 +1,10 @@
 // The search, level by level: rows with room have level 1, and a line passes its reach on to each line without a mark to which something can
 // move from it. What can move away from a line is what can move into the line that crosses it there.
-use crate::pairs::{can_move, cross, seat_of};
+use crate::pairs::can_move;
+use crate::pairs::cross;
+use crate::pairs::seat_of;
 ghost use mathlib.Core.Path.{_≡_};
-ghost use Prim.Native.Nat.{ℕ, _+_, _*_, _<_, _≤_};
+ghost use Prim.Native.Nat.{_+_, _*_, _<_, _≤_};
 ghost use lib.ListN.{length, getD};
 ghost use Rattle.levels.specs.Levels.{Below, Searched};
 ghost use Rattle.levels.specs.Searches.{Start, Started, Spread, Swept};

@@ -1,56 +1,66 @@
+-- `flow::largest_on` meets its contract: from zeros and limits through the fill and the growth spans are kept, and what is left is closed.
+-- Assumes nothing.
+use native.Mathlib.Omega.{arith}
+use mathlib.Core.Path.{_∙_}
+use borrow.Author.Needs.{needs}
 use Rattle.flow.proofs.Ends.{roomy-start, finished}
 use Rattle.flow.proofs.Takes.{roomy-kept}
-use native.Mathlib.Omega.{arith}
-use mathlib.Core.Path.{_≡_, refl, sym, _∙_, ap}
-use borrow.Author.Needs.{needs}
 use Rattle.flow.proofs.largest_on.Statement.{statement}
 use Rattle.flow.proofs.largest_on.Tie as tie
-use Rattle.flow.proofs.largest_on.Reads as reads
-use Rattle.flow.proofs.largest_on.Lts as lts
-use Rattle.flow.proofs.draw.grow.Reads as grow-reads
-use Rattle.flow.proofs.fill.clear.Reads as clear-reads
-use Rattle.flow.proofs.fill.copy.Reads as copy-reads
-use Rattle.flow.proofs.fill.fill.Reads as fill-reads
 
--- src/lib.rt:19:14
 mul-clear : tie.Need-mul-clear
 mul-clear c = search needs
 
--- src/lib.rt:19:5
 clear-requires : tie.Need-clear-requires
 clear-requires c κs = search needs
 
--- src/lib.rt:20:23
 mul-copy : tie.Need-mul-copy
 mul-copy c = search needs
 
--- src/lib.rt:20:5
 copy-requires : tie.Need-copy-requires
 copy-requires c κs = search needs
 
--- src/lib.rt:21:5
 fill-requires : tie.Need-fill-requires
-fill-requires c κs = roomy-start _ (c .before .before .before .before .before .before .before .before .clear .last .0) (c .before .before .before .before .before .before .before .before .clear .ensures) _ (c .before .before .before .before .before .before .before .before .before .before .before .before .before .before .before .args .limit .now) (c .before .before .before .before .before .before .before .before .before .before .before .before .before .before .before .args .a .now) _ (c .before .before .before .before .before .before .before .before .before .before .before .before .before .before .before .args .marks .now) (c .before .before .before .before .before .before .before .before .before .before .before .before .before .before .before .pre .0) (c .before .before .before .before .before .before .before .before .clear .kept .0) (omega (arith, c .before .before .before .before .copy .kept .1 .0, c .before .before .before .before .before .before .before .before .before .before .before .before .before .before .before .pre .1))
+fill-requires c κs =
+    let clear-said = c .before .before .before .before .before .before .before .before .clear in
+    let args = c .before .before .before .before .before .before .before .before .before .before .before .before .before .before .before .args in
+    let asked = c .before .before .before .before .before .before .before .before .before .before .before .before .before .before .before .pre in
+    roomy-start _ (clear-said .last .0) (clear-said .ensures) _ (args .limit .now) (args .a .now) _ (args .marks .now) (asked .0) (clear-said .kept .0) (omega (arith, c .before .before .before .before .copy .kept .1 .0, asked .1))
 
--- src/lib.rt:22:5
 grow-requires : tie.Need-grow-requires
-grow-requires c κs = (roomy-kept (roomy-start (c .before .before .before .before .before .before .before .before .before .before .before .before .before .before .before .before .before .before .before .before .before .before .before .args .n) (c .before .before .before .before .before .before .before .before .before .before .before .before .before .before .before .before .clear .last .0) (c .before .before .before .before .before .before .before .before .before .before .before .before .before .before .before .before .clear .ensures) (c .before .before .before .before .before .before .before .before .before .before .before .before .before .before .before .before .before .before .before .before .before .before .before .args .bound .now) (c .before .before .before .before .before .before .before .before .before .before .before .before .before .before .before .before .before .before .before .before .before .before .before .args .limit .now) (c .before .before .before .before .before .before .before .before .before .before .before .before .before .before .before .before .before .before .before .before .before .before .before .args .a .now) (c .before .before .before .before .before .before .before .before .before .before .before .before .copy .last .1 .0) (c .before .before .before .before .before .before .before .before .before .before .before .before .before .before .before .before .before .before .before .before .before .before .before .args .marks .now) (c .before .before .before .before .before .before .before .before .before .before .before .before .before .before .before .before .before .before .before .before .before .before .before .pre .0) (c .before .before .before .before .before .before .before .before .before .before .before .before .before .before .before .before .clear .kept .0) (omega (arith, c .before .before .before .before .before .before .before .before .before .before .before .before .copy .kept .1 .0, c .before .before .before .before .before .before .before .before .before .before .before .before .before .before .before .before .before .before .before .before .before .before .before .pre .1))) (c .before .before .before .before .before .before .before .fill .ensures) (c .before .before .before .before .before .before .before .fill .kept .1 .1 .0) (c .before .before .before .before .before .before .before .fill .kept .1 .1 .1 .0), c .before .before .before .before .before .before .before .before .before .before .before .before .before .before .before .before .before .before .before .before .before .before .before .pre .0 .lines)
+grow-requires c κs =
+    let args = c .before .before .before .before .before .before .before .before .before .before .before .before .before .before .before .before .before .before .before .before .before .before .before .args in
+    let clear-said = c .before .before .before .before .before .before .before .before .before .before .before .before .before .before .before .before .clear in
+    let copy-said = c .before .before .before .before .before .before .before .before .before .before .before .before .copy in
+    let asked = c .before .before .before .before .before .before .before .before .before .before .before .before .before .before .before .before .before .before .before .before .before .before .before .pre in
+    let fill-said = c .before .before .before .before .before .before .before .fill in
+    (roomy-kept (roomy-start (args .n) (clear-said .last .0) (clear-said .ensures) (args .bound .now) (args .limit .now) (args .a .now) (copy-said .last .1 .0) (args .marks .now) (asked .0) (clear-said .kept .0) (omega (arith, copy-said .kept .1 .0, asked .1))) (fill-said .ensures) (fill-said .kept .1 .1 .0) (fill-said .kept .1 .1 .1 .0), asked .0 .lines)
 
--- src/lib.rt:14:1
 same-length : tie.Need-same-length
-same-length c = c .before .before .before .before .before .before .grow .kept .1 .1 .0 ∙ c .before .before .before .before .before .before .before .before .before .before .before .before .before .before .fill .kept .1 .1 .0 ∙ c .before .before .before .before .before .before .before .before .before .before .before .before .before .before .before .before .before .before .before .before .before .before .before .clear .kept .0
+same-length c =
+    let grow-said = c .before .before .before .before .before .before .grow in
+    let fill-said = c .before .before .before .before .before .before .before .before .before .before .before .before .before .before .fill in
+    let clear-said = c .before .before .before .before .before .before .before .before .before .before .before .before .before .before .before .before .before .before .before .before .before .before .before .clear in
+    grow-said .kept .1 .1 .0 ∙ fill-said .kept .1 .1 .0 ∙ clear-said .kept .0
 
--- src/lib.rt:14:1
 same-length-2 : tie.Need-same-length-2
-same-length-2 c = c .before .before .before .before .before .before .grow .kept .1 .1 .1 .0 ∙ c .before .before .before .before .before .before .before .before .before .before .before .before .before .before .fill .kept .1 .1 .1 .0 ∙ c .before .before .before .before .before .before .before .before .before .before .before .before .before .before .before .before .before .before .before .copy .kept .1 .0
+same-length-2 c =
+    let grow-said = c .before .before .before .before .before .before .grow in
+    let fill-said = c .before .before .before .before .before .before .before .before .before .before .before .before .before .before .fill in
+    let copy-said = c .before .before .before .before .before .before .before .before .before .before .before .before .before .before .before .before .before .before .before .copy in
+    grow-said .kept .1 .1 .1 .0 ∙ fill-said .kept .1 .1 .1 .0 ∙ copy-said .kept .1 .0
 
--- src/lib.rt:14:1
 same-length-3 : tie.Need-same-length-3
 same-length-3 c = c .before .before .before .before .before .before .grow .kept .1 .1 .1 .1 .0
 
--- src/lib.rt:14:1
 returns : tie.Need-returns
-returns c = finished (c .before .before .before .before .before .before .before .before .before .before .before .before .before .before .before .before .before .before .before .before .before .before .before .before .before .before .before .before .before .before .args .limit .now) (c .before .before .before .before .before .before .before .before .before .before .before .before .before .before .fill .ensures) (c .before .before .before .before .before .before .grow .ensures) (c .before .before .before .before .before .before .before .before .before .before .before .before .before .before .before .before .before .before .before .before .before .before .before .clear .ensures) (c .before .before .before .before .before .before .before .before .before .before .before .before .before .before .before .before .before .before .before .copy .ensures)
+returns c =
+    let args = c .before .before .before .before .before .before .before .before .before .before .before .before .before .before .before .before .before .before .before .before .before .before .before .before .before .before .before .before .before .before .args in
+    let fill-said = c .before .before .before .before .before .before .before .before .before .before .before .before .before .before .fill in
+    let grow-said = c .before .before .before .before .before .before .grow in
+    let clear-said = c .before .before .before .before .before .before .before .before .before .before .before .before .before .before .before .before .before .before .before .before .before .before .before .clear in
+    let copy-said = c .before .before .before .before .before .before .before .before .before .before .before .before .before .before .before .before .before .before .before .copy in
+    finished (args .limit .now) (fill-said .ensures) (grow-said .ensures) (clear-said .ensures) (copy-said .ensures)
 
 pub largest-on-spec : {M : Type 1} → statement M
 largest-on-spec =

@@ -1,4 +1,4 @@
--- `next_line` finds the line that the rule takes: after each turn it has the one of the lines passed. Assumes nothing.
+-- `next_line` finds the line that the rule takes: after m turns it has the one of the lines below m. Assumes nothing.
 use mathlib.Core.Path.{_≡_}
 use borrow.Author.Needs.{needs}
 use Rattle.fair.proofs.Comparisons.{next-start, next-ahead, next-behind}

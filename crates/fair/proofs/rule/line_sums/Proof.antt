@@ -44,7 +44,7 @@ same-length : tie.Need-same-length Inv-loop μ-loop
 same-length c = c .before .loop .inv .1
 
 returns : tie.Need-returns Inv-loop μ-loop
-returns c = let done : c .before .loop .line ≡ 2 * c .before .before .before .before .args .n = omega arith in rw done at (c .before .loop .inv .2)
+returns c = let done : c .before .loop .line ≡ 2 * c .before .before .before .before .args .n = omega arith in record { lines = rw done at (c .before .loop .inv .2) }
 
 pub line-sums-spec : {M : Type 1} → statement M
 line-sums-spec =

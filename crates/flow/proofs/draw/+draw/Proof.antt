@@ -1,20 +1,21 @@
-use Rattle.flow.proofs.Moves.{Drawing, own-drawn, drawing-start, drawing-skip, drawing-step, drawing-full, drawing-end, roomy-now, can-lower, can-pass}
-use Prim.Native.Nat.{ℕ, _≤_, _<_, _-_, _+_}
-use lib.ListN.{length, length-set}
+-- `flow::draw::draw` meets its contract. It calls itself one level below, so the level is its measure. The loop's invariant: less than is wanted
+-- was drawn through the pairs passed. The loop's measure is what is left of the pairs. Assumes nothing.
+use Prim.Native.Nat.{ℕ, _≤_, _<_, _-_}
 use native.Mathlib.Omega.{arith}
-use mathlib.Core.Path.{_≡_, refl, sym, _∙_, ap}
-use Prim.Native.Nat.{ℕ, _<_}
+use mathlib.Core.Path.{_≡_, refl, _∙_}
+use lib.ListN.{length, length-set}
 use borrow.Fn.Kinds.{In}
 use borrow.Fn.PlainCycle.{Measures, is, falls, and}
+use Rattle.levels.proofs.pairs.cross.Reads as cross-reads
+use Rattle.flow.proofs.Moves.{Drawing, own-drawn, drawing-start, drawing-skip, drawing-step, drawing-full, drawing-end, roomy-now, can-lower, can-pass}
+use Rattle.flow.proofs.draw.+draw.{statement}
+use Rattle.flow.proofs.draw.+draw.Tie.{close}
 use Rattle.flow.proofs.draw.draw.Reads as draw
 use Rattle.flow.proofs.draw.draw.Kinds as draw-kinds
 use Rattle.flow.proofs.draw.+draw.Lts-draw as draw-lts
 use Rattle.flow.proofs.draw.draw_own.Reads as draw-own-reads
 use Rattle.flow.proofs.draw.drawable.Reads as drawable-reads
 use Rattle.flow.proofs.draw.pass.Reads as pass-reads
-use Rattle.levels.proofs.pairs.cross.Reads as cross-reads
-use Rattle.flow.proofs.draw.+draw.{statement}
-use Rattle.flow.proofs.draw.+draw.Tie.{close}
 
 abbrev μ-draw : Measures 4 draw-kinds.ps ℕ
 μ-draw κs a = a .1 .1 .1 .1 .1 .1 .0
@@ -31,7 +32,6 @@ draw-Inv-loop n bound a₀ room₀ marks₀ line level want got₀ t₀ a room m
 abbrev draw-μ-loop : draw-lts.MeasureT-loop
 draw-μ-loop n bound a₀ room₀ marks₀ line level want got₀ t₀ a room marks got t = n - t
 
--- src/draw.rt:59:9
 draw-draw-own-requires : (t : ℕ) → draw-lts.Need-draw-own-requires (
   draw-own-reads.Asked,
   draw-own-reads.Learnt,
@@ -46,7 +46,6 @@ draw-draw-own-requires : (t : ℕ) → draw-lts.Need-draw-own-requires (
 ) (draw-at t) draw.Post draw-Inv-loop draw-μ-loop
 draw-draw-own-requires t c κs = omega (arith, c .before .before .before .before .before .before .pre .1 .roomy .rooms, c .before .before .before .before .before .before .pre .1 .line)
 
--- src/draw.rt:59:9
 draw-same-length : (t : ℕ) → draw-lts.Need-same-length (
   draw-own-reads.Asked,
   draw-own-reads.Learnt,
@@ -61,7 +60,6 @@ draw-same-length : (t : ℕ) → draw-lts.Need-same-length (
 ) (draw-at t) draw.Post draw-Inv-loop draw-μ-loop
 draw-same-length t c = c .before .before .draw-own .kept .0
 
--- src/draw.rt:59:9
 draw-returns : (t : ℕ) → draw-lts.Need-returns (
   draw-own-reads.Asked,
   draw-own-reads.Learnt,
@@ -74,9 +72,12 @@ draw-returns : (t : ℕ) → draw-lts.Need-returns (
   pass-reads.Asked,
   pass-reads.Learnt,
 ) (draw-at t) draw.Post draw-Inv-loop draw-μ-loop
-draw-returns t c = rw (c .before .before .draw-own .ensures .1) (own-drawn _ _ _ _ _ _ _ _ _ (c .before .before .before .before .before .before .before .before .before .pre .1) (c .before .before .before .before .if1 .taken) (c .before .before .draw-own .ensures .0))
+draw-returns t c =
+    let asked = c .before .before .before .before .before .before .before .before .before .pre in
+    let draw-own-said = c .before .before .draw-own in
+    let asked = asked in
+    rw (draw-own-said .ensures .1) (own-drawn _ _ _ _ _ _ _ _ _ (asked .1) (c .before .before .before .before .if1 .taken) (draw-own-said .ensures .0))
 
--- src/draw.rt:63:5
 draw-loop-holds : (t : ℕ) → draw-lts.Need-loop-holds (
   draw-own-reads.Asked,
   draw-own-reads.Learnt,
@@ -91,7 +92,6 @@ draw-loop-holds : (t : ℕ) → draw-lts.Need-loop-holds (
 ) (draw-at t) draw.Post draw-Inv-loop draw-μ-loop
 draw-loop-holds t c = (omega arith, refl, refl, refl, drawing-start _ _ _ _ _ _ _ _ (c .before .before .before .before .before .pre .1))
 
--- src/draw.rt:64:65
 draw-sub-drawable : (t : ℕ) → draw-lts.Need-sub-drawable (
   draw-own-reads.Asked,
   draw-own-reads.Learnt,
@@ -106,7 +106,6 @@ draw-sub-drawable : (t : ℕ) → draw-lts.Need-sub-drawable (
 ) (draw-at t) draw.Post draw-Inv-loop draw-μ-loop
 draw-sub-drawable t c = omega (arith, c .before .before .before .loop .inv .4 .short)
 
--- src/draw.rt:64:13
 draw-drawable-requires : (t : ℕ) → draw-lts.Need-drawable-requires (
   draw-own-reads.Asked,
   draw-own-reads.Learnt,
@@ -119,9 +118,12 @@ draw-drawable-requires : (t : ℕ) → draw-lts.Need-drawable-requires (
   pass-reads.Asked,
   pass-reads.Learnt,
 ) (draw-at t) draw.Post draw-Inv-loop draw-μ-loop
-draw-drawable-requires t c κs = (roomy-now (c .before .before .before .loop .inv .4) (c .before .before .before .before .before .before .before .before .before .pre .1) (c .before .before .before .loop .inv .1) (c .before .before .before .loop .inv .2) .below, (omega (arith, c .before .before .before .before .before .before .before .before .before .pre .1 .lines, c .before .before .before .loop .inv .3), c .before .before .before .before .before .before .before .before .before .pre .1 .line, omega arith, c .before .before .before .before .before .before .before .before .before .pre .1 .reached, omega (arith, c .before .before .before .loop .inv .4 .short)))
+draw-drawable-requires t c κs =
+    let asked = c .before .before .before .before .before .before .before .before .before .pre in
+    let turn = c .before .before .before .loop in
+    let asked = asked in
+    (roomy-now (turn .inv .4) (asked .1) (turn .inv .1) (turn .inv .2) .below, (omega (arith, asked .1 .lines, turn .inv .3), asked .1 .line, omega arith, asked .1 .reached, omega (arith, turn .inv .4 .short)))
 
--- src/draw.rt:66:13
 draw-add-t : (t : ℕ) → draw-lts.Need-add-t (
   draw-own-reads.Asked,
   draw-own-reads.Learnt,
@@ -136,7 +138,6 @@ draw-add-t : (t : ℕ) → draw-lts.Need-add-t (
 ) (draw-at t) draw.Post draw-Inv-loop draw-μ-loop
 draw-add-t t c = omega arith
 
--- src/draw.rt:63:5
 draw-loop-less : (t : ℕ) → draw-lts.Need-loop-less (
   draw-own-reads.Asked,
   draw-own-reads.Learnt,
@@ -151,7 +152,6 @@ draw-loop-less : (t : ℕ) → draw-lts.Need-loop-less (
 ) (draw-at t) draw.Post draw-Inv-loop draw-μ-loop
 draw-loop-less t c = omega arith
 
--- src/draw.rt:63:5
 draw-loop-again : (t : ℕ) → draw-lts.Need-loop-again (
   draw-own-reads.Asked,
   draw-own-reads.Learnt,
@@ -164,9 +164,10 @@ draw-loop-again : (t : ℕ) → draw-lts.Need-loop-again (
   pass-reads.Asked,
   pass-reads.Learnt,
 ) (draw-at t) draw.Post draw-Inv-loop draw-μ-loop
-draw-loop-again t c = (omega arith, c .before .before .before .before .before .loop .inv .1, c .before .before .before .before .before .loop .inv .2, c .before .before .before .before .before .loop .inv .3, drawing-skip (c .before .before .before .before .before .loop .inv .4) (c .before .drawable .ensures .none (c .if2 .taken)))
+draw-loop-again t c =
+    let turn = c .before .before .before .before .before .loop in
+    (omega arith, turn .inv .1, turn .inv .2, turn .inv .3, drawing-skip (turn .inv .4) (c .before .drawable .ensures .none (c .if2 .taken)))
 
--- src/draw.rt:69:48
 draw-cross-requires : (t : ℕ) → draw-lts.Need-cross-requires (
   draw-own-reads.Asked,
   draw-own-reads.Learnt,
@@ -179,9 +180,11 @@ draw-cross-requires : (t : ℕ) → draw-lts.Need-cross-requires (
   pass-reads.Asked,
   pass-reads.Learnt,
 ) (draw-at t) draw.Post draw-Inv-loop draw-μ-loop
-draw-cross-requires t c κs = (c .before .before .before .before .before .before .before .before .before .before .before .before .before .before .pre .1 .roomy .below .cells .nodes, omega arith)
+draw-cross-requires t c κs =
+    let asked = c .before .before .before .before .before .before .before .before .before .before .before .before .before .before .pre in
+    let asked = asked in
+    (asked .1 .roomy .below .cells .nodes, omega arith)
 
--- src/draw.rt:69:67
 draw-sub-draw : (t : ℕ) → draw-lts.Need-sub-draw (
   draw-own-reads.Asked,
   draw-own-reads.Learnt,
@@ -196,7 +199,6 @@ draw-sub-draw : (t : ℕ) → draw-lts.Need-sub-draw (
 ) (draw-at t) draw.Post draw-Inv-loop draw-μ-loop
 draw-sub-draw t c = omega (arith, c .before .before .before .before .before .before .before .before .before .before .before .before .before .before .before .pre .1 .reached)
 
--- src/draw.rt:69:13
 draw-draw-requires : (t : ℕ) → draw-lts.Need-draw-requires (
   draw-own-reads.Asked,
   draw-own-reads.Learnt,
@@ -209,9 +211,14 @@ draw-draw-requires : (t : ℕ) → draw-lts.Need-draw-requires (
   pass-reads.Asked,
   pass-reads.Learnt,
 ) (draw-at t) draw.Post draw-Inv-loop draw-μ-loop
-draw-draw-requires t c κs = (omega (arith, c .before .before .before .before .before .before .before .before .before .before .before .before .before .before .before .pre .0, c .before .before .before .before .before .before .before .before .before .before .before .before .before .before .before .pre .1 .reached), rw (c .cross .ensures) (can-lower (c .before .before .before .before .before .before .before .before .before .loop .inv .4) (c .before .before .before .before .before .before .before .before .before .before .before .before .before .before .before .pre .1) (c .before .before .before .before .before .before .before .before .before .loop .inv .1) (c .before .before .before .before .before .before .before .before .before .loop .inv .2) (c .before .before .before .before .before .before .before .before .before .loop .inv .3) (omega arith) (omega arith) (omega (arith, c .before .before .before .before .before .before .before .before .before .before .before .before .before .before .before .pre .1 .reached)) (c .before .before .before .before .before .drawable .ensures .lower (omega arith)) (omega (arith, c .before .before .before .before .before .before .before .before .before .before .before .before .before .before .before .pre .1 .reached))))
+draw-draw-requires t c κs =
+    let asked = c .before .before .before .before .before .before .before .before .before .before .before .before .before .before .before .pre in
+    let turn = c .before .before .before .before .before .before .before .before .before .loop in
+    let loop-test-said = c .before .before .before .before .before .before .before .before .loop-test in
+    let if2 = c .before .before .before .before .if2 in
+    let if1 = c .before .before .before .before .before .before .before .before .before .before .if1 in
+    (omega (arith, asked .0, asked .1 .reached), rw (c .cross .ensures) (can-lower (turn .inv .4) (asked .1) (turn .inv .1) (turn .inv .2) (turn .inv .3) (loop-test-said .taken) (omega (arith, if2 .left)) (omega (arith, asked .1 .reached, if1 .left)) (c .before .before .before .before .before .drawable .ensures .lower (omega (arith, if2 .left))) (omega (arith, asked .1 .reached))))
 
--- src/draw.rt:70:9
 draw-pass-requires : (t : ℕ) → draw-lts.Need-pass-requires (
   draw-own-reads.Asked,
   draw-own-reads.Learnt,
@@ -224,9 +231,16 @@ draw-pass-requires : (t : ℕ) → draw-lts.Need-pass-requires (
   pass-reads.Asked,
   pass-reads.Learnt,
 ) (draw-at t) draw.Post draw-Inv-loop draw-μ-loop
-draw-pass-requires t c κs = (record { nodes = c .before .before .before .before .before .before .before .before .before .before .before .before .before .before .before .before .before .before .before .before .before .before .before .pre .1 .roomy .below .cells .nodes; cells = omega (arith, c .before .before .before .before .before .before .before .draw .kept .1 .1 .0, c .before .before .before .before .before .before .before .before .before .before .before .before .before .before .before .before .before .loop .inv .1, c .before .before .before .before .before .before .before .before .before .before .before .before .before .before .before .before .before .before .before .before .before .before .before .pre .1 .roomy .below .cells .cells) }, can-pass (c .before .before .before .before .before .before .before .before .before .before .before .before .before .before .before .before .before .loop .inv .4) (rw (c .before .before .before .before .before .before .before .before .cross .ensures) at (c .before .before .before .before .before .before .before .draw .ensures)) (c .before .before .before .before .before .before .before .before .before .before .before .before .before .before .before .before .before .before .before .before .before .before .before .pre .1 .line) (omega arith) (c .before .before .before .before .before .before .before .before .before .before .before .before .before .drawable .ensures .lower (omega arith)) (omega (arith, c .before .before .before .before .before .before .before .before .before .before .before .before .before .before .before .before .before .before .before .before .before .before .before .pre .1 .reached)) (c .before .before .before .before .before .before .before .before .before .before .before .before .before .drawable .ensures .can) (omega (arith, c .before .before .before .before .before .before .before .draw .kept .1 .1 .0, c .before .before .before .before .before .before .before .before .before .before .before .before .before .before .before .before .before .loop .inv .1, c .before .before .before .before .before .before .before .before .before .before .before .before .before .before .before .before .before .before .before .before .before .before .before .pre .1 .roomy .below .cells .cells)) (c .before .before .before .before .before .before .before .before .before .before .before .before .before .before .before .before .before .before .before .before .before .before .before .pre .1 .roomy .demands))
+draw-pass-requires t c κs =
+    let asked = c .before .before .before .before .before .before .before .before .before .before .before .before .before .before .before .before .before .before .before .before .before .before .before .pre in
+    let draw-said = c .before .before .before .before .before .before .before .draw in
+    let turn = c .before .before .before .before .before .before .before .before .before .before .before .before .before .before .before .before .before .loop in
+    let cross-said = c .before .before .before .before .before .before .before .before .cross in
+    let loop-test-said = c .before .before .before .before .before .before .before .before .before .before .before .before .before .before .before .before .loop-test in
+    let drawable-said = c .before .before .before .before .before .before .before .before .before .before .before .before .before .drawable in
+    let if2 = c .before .before .before .before .before .before .before .before .before .before .before .before .if2 in
+    (record { nodes = asked .1 .roomy .below .cells .nodes; cells = omega (arith, draw-said .kept .1 .1 .0, turn .inv .1, asked .1 .roomy .below .cells .cells) }, can-pass (turn .inv .4) (rw (cross-said .ensures) at (draw-said .ensures)) (asked .1 .line) (loop-test-said .taken) (drawable-said .ensures .lower (omega (arith, if2 .left))) (omega (arith, asked .1 .reached)) (drawable-said .ensures .can) (omega (arith, draw-said .kept .1 .1 .0, turn .inv .1, asked .1 .roomy .below .cells .cells)) (asked .1 .roomy .demands))
 
--- src/draw.rt:71:9
 draw-add-got : (t : ℕ) → draw-lts.Need-add-got (
   draw-own-reads.Asked,
   draw-own-reads.Learnt,
@@ -239,9 +253,17 @@ draw-add-got : (t : ℕ) → draw-lts.Need-add-got (
   pass-reads.Asked,
   pass-reads.Learnt,
 ) (draw-at t) draw.Post draw-Inv-loop draw-μ-loop
-draw-add-got t c = omega (arith, c .before .before .before .before .before .before .before .before .before .before .draw .ensures .most, c .before .before .before .before .before .before .before .before .before .before .before .before .before .before .before .before .drawable .ensures .most, c .before .before .before .before .before .before .before .before .before .before .before .before .before .before .before .before .before .before .before .before .loop .inv .4 .short, c .before .before .before .before .before .before .before .before .before .before .before .before .before .before .before .before .before .before .before .before .before .before .before .before .before .before .fits .want)
+draw-add-got t c =
+    let draw-said = c .before .before .before .before .before .before .before .before .before .before .draw in
+    let drawable-said = c .before .before .before .before .before .before .before .before .before .before .before .before .before .before .before .before .drawable in
+    let turn = c .before .before .before .before .before .before .before .before .before .before .before .before .before .before .before .before .before .before .before .before .loop in
+    let fits-said = c .before .before .before .before .before .before .before .before .before .before .before .before .before .before .before .before .before .before .before .before .before .before .before .before .before .before .fits in
+    let draw-said = draw-said in
+    let drawable-said = drawable-said in
+    let turn = turn in
+    let fits-said = fits-said in
+    omega (arith, draw-said .ensures .most, drawable-said .ensures .most, turn .inv .4 .short, fits-said .want)
 
--- src/draw.rt:73:13
 draw-same-length-2 : (t : ℕ) → draw-lts.Need-same-length-2 (
   draw-own-reads.Asked,
   draw-own-reads.Learnt,
@@ -254,9 +276,13 @@ draw-same-length-2 : (t : ℕ) → draw-lts.Need-same-length-2 (
   pass-reads.Asked,
   pass-reads.Learnt,
 ) (draw-at t) draw.Post draw-Inv-loop draw-μ-loop
-draw-same-length-2 t c = c .before .before .before .pass .kept .1 .0 ∙ c .before .before .before .before .before .before .before .before .before .before .before .draw .kept .1 .1 .0 ∙ c .before .before .before .before .before .before .before .before .before .before .before .before .before .before .before .before .before .before .before .before .before .loop .inv .1
+draw-same-length-2 t c =
+    let draw-said = c .before .before .before .before .before .before .before .before .before .before .before .draw in
+    let turn = c .before .before .before .before .before .before .before .before .before .before .before .before .before .before .before .before .before .before .before .before .before .loop in
+    let draw-said = draw-said in
+    let turn = turn in
+    c .before .before .before .pass .kept .1 .0 ∙ draw-said .kept .1 .1 .0 ∙ turn .inv .1
 
--- src/draw.rt:73:13
 draw-same-length-3 : (t : ℕ) → draw-lts.Need-same-length-3 (
   draw-own-reads.Asked,
   draw-own-reads.Learnt,
@@ -269,9 +295,13 @@ draw-same-length-3 : (t : ℕ) → draw-lts.Need-same-length-3 (
   pass-reads.Asked,
   pass-reads.Learnt,
 ) (draw-at t) draw.Post draw-Inv-loop draw-μ-loop
-draw-same-length-3 t c = c .before .before .before .before .before .before .before .before .before .before .before .draw .kept .1 .1 .1 .0 ∙ c .before .before .before .before .before .before .before .before .before .before .before .before .before .before .before .before .before .before .before .before .before .loop .inv .2
+draw-same-length-3 t c =
+    let draw-said = c .before .before .before .before .before .before .before .before .before .before .before .draw in
+    let turn = c .before .before .before .before .before .before .before .before .before .before .before .before .before .before .before .before .before .before .before .before .before .loop in
+    let draw-said = draw-said in
+    let turn = turn in
+    draw-said .kept .1 .1 .1 .0 ∙ turn .inv .2
 
--- src/draw.rt:73:13
 draw-same-length-4 : (t : ℕ) → draw-lts.Need-same-length-4 (
   draw-own-reads.Asked,
   draw-own-reads.Learnt,
@@ -284,9 +314,13 @@ draw-same-length-4 : (t : ℕ) → draw-lts.Need-same-length-4 (
   pass-reads.Asked,
   pass-reads.Learnt,
 ) (draw-at t) draw.Post draw-Inv-loop draw-μ-loop
-draw-same-length-4 t c = c .before .before .before .before .before .before .before .before .before .before .before .draw .kept .1 .1 .1 .1 .0 ∙ c .before .before .before .before .before .before .before .before .before .before .before .before .before .before .before .before .before .before .before .before .before .loop .inv .3
+draw-same-length-4 t c =
+    let draw-said = c .before .before .before .before .before .before .before .before .before .before .before .draw in
+    let turn = c .before .before .before .before .before .before .before .before .before .before .before .before .before .before .before .before .before .before .before .before .before .loop in
+    let draw-said = draw-said in
+    let turn = turn in
+    draw-said .kept .1 .1 .1 .1 .0 ∙ turn .inv .3
 
--- src/draw.rt:73:13
 draw-returns-2 : (t : ℕ) → draw-lts.Need-returns-2 (
   draw-own-reads.Asked,
   draw-own-reads.Learnt,
@@ -299,9 +333,16 @@ draw-returns-2 : (t : ℕ) → draw-lts.Need-returns-2 (
   pass-reads.Asked,
   pass-reads.Learnt,
 ) (draw-at t) draw.Post draw-Inv-loop draw-μ-loop
-draw-returns-2 t c = rw (c .before .before .before .pass .ensures) (drawing-full (c .before .before .before .before .before .before .before .before .before .before .before .before .before .before .before .before .before .before .before .before .before .loop .inv .4) (rw (c .before .before .before .before .before .before .before .before .before .before .before .before .cross .ensures) at (c .before .before .before .before .before .before .before .before .before .before .before .draw .ensures)) (c .before .before .before .before .before .before .before .before .before .before .before .before .before .before .before .before .before .before .before .before .before .before .before .before .before .before .before .pre .1 .line) (omega arith) (c .before .before .before .before .before .before .before .before .before .before .before .before .before .before .before .before .before .drawable .ensures .lower (omega arith)) (omega (arith, c .before .before .before .before .before .before .before .before .before .before .before .before .before .before .before .before .before .before .before .before .before .before .before .before .before .before .before .pre .1 .reached)) (c .before .before .before .before .before .before .before .before .before .before .before .before .before .before .before .before .before .drawable .ensures .can) (omega (arith, c .before .before .before .before .before .before .before .before .before .before .before .draw .kept .1 .1 .0, c .before .before .before .before .before .before .before .before .before .before .before .before .before .before .before .before .before .before .before .before .before .loop .inv .1, c .before .before .before .before .before .before .before .before .before .before .before .before .before .before .before .before .before .before .before .before .before .before .before .before .before .before .before .pre .1 .roomy .below .cells .cells)) (c .if3 .taken))
+draw-returns-2 t c =
+    let turn = c .before .before .before .before .before .before .before .before .before .before .before .before .before .before .before .before .before .before .before .before .before .loop in
+    let cross-said = c .before .before .before .before .before .before .before .before .before .before .before .before .cross in
+    let draw-said = c .before .before .before .before .before .before .before .before .before .before .before .draw in
+    let asked = c .before .before .before .before .before .before .before .before .before .before .before .before .before .before .before .before .before .before .before .before .before .before .before .before .before .before .before .pre in
+    let loop-test-said = c .before .before .before .before .before .before .before .before .before .before .before .before .before .before .before .before .before .before .before .before .loop-test in
+    let drawable-said = c .before .before .before .before .before .before .before .before .before .before .before .before .before .before .before .before .before .drawable in
+    let if2 = c .before .before .before .before .before .before .before .before .before .before .before .before .before .before .before .before .if2 in
+    rw (c .before .before .before .pass .ensures) (drawing-full (turn .inv .4) (rw (cross-said .ensures) at (draw-said .ensures)) (asked .1 .line) (loop-test-said .taken) (drawable-said .ensures .lower (omega (arith, if2 .left))) (omega (arith, asked .1 .reached)) (drawable-said .ensures .can) (omega (arith, draw-said .kept .1 .1 .0, turn .inv .1, asked .1 .roomy .below .cells .cells)) (c .if3 .taken))
 
--- src/draw.rt:75:9
 draw-add-t-2 : (t : ℕ) → draw-lts.Need-add-t-2 (
   draw-own-reads.Asked,
   draw-own-reads.Learnt,
@@ -316,7 +357,6 @@ draw-add-t-2 : (t : ℕ) → draw-lts.Need-add-t-2 (
 ) (draw-at t) draw.Post draw-Inv-loop draw-μ-loop
 draw-add-t-2 t c = omega arith
 
--- src/draw.rt:63:5
 draw-loop-less-2 : (t : ℕ) → draw-lts.Need-loop-less-2 (
   draw-own-reads.Asked,
   draw-own-reads.Learnt,
@@ -331,7 +371,6 @@ draw-loop-less-2 : (t : ℕ) → draw-lts.Need-loop-less-2 (
 ) (draw-at t) draw.Post draw-Inv-loop draw-μ-loop
 draw-loop-less-2 t c = omega arith
 
--- src/draw.rt:63:5
 draw-loop-again-2 : (t : ℕ) → draw-lts.Need-loop-again-2 (
   draw-own-reads.Asked,
   draw-own-reads.Learnt,
@@ -344,9 +383,17 @@ draw-loop-again-2 : (t : ℕ) → draw-lts.Need-loop-again-2 (
   pass-reads.Asked,
   pass-reads.Learnt,
 ) (draw-at t) draw.Post draw-Inv-loop draw-μ-loop
-draw-loop-again-2 t c = (omega arith, c .before .before .before .pass .kept .1 .0 ∙ c .before .before .before .before .before .before .before .before .before .before .before .draw .kept .1 .1 .0 ∙ c .before .before .before .before .before .before .before .before .before .before .before .before .before .before .before .before .before .before .before .before .before .loop .inv .1, c .before .before .before .before .before .before .before .before .before .before .before .draw .kept .1 .1 .1 .0 ∙ c .before .before .before .before .before .before .before .before .before .before .before .before .before .before .before .before .before .before .before .before .before .loop .inv .2, c .before .before .before .before .before .before .before .before .before .before .before .draw .kept .1 .1 .1 .1 .0 ∙ c .before .before .before .before .before .before .before .before .before .before .before .before .before .before .before .before .before .before .before .before .before .loop .inv .3, rw (c .before .before .before .pass .ensures) (drawing-step (c .before .before .before .before .before .before .before .before .before .before .before .before .before .before .before .before .before .before .before .before .before .loop .inv .4) (rw (c .before .before .before .before .before .before .before .before .before .before .before .before .cross .ensures) at (c .before .before .before .before .before .before .before .before .before .before .before .draw .ensures)) (c .before .before .before .before .before .before .before .before .before .before .before .before .before .before .before .before .before .before .before .before .before .before .before .before .before .before .before .pre .1 .line) (omega arith) (c .before .before .before .before .before .before .before .before .before .before .before .before .before .before .before .before .before .drawable .ensures .lower (omega arith)) (omega (arith, c .before .before .before .before .before .before .before .before .before .before .before .before .before .before .before .before .before .before .before .before .before .before .before .before .before .before .before .pre .1 .reached)) (c .before .before .before .before .before .before .before .before .before .before .before .before .before .before .before .before .before .drawable .ensures .can) (omega (arith, c .before .before .before .before .before .before .before .before .before .before .before .draw .kept .1 .1 .0, c .before .before .before .before .before .before .before .before .before .before .before .before .before .before .before .before .before .before .before .before .before .loop .inv .1, c .before .before .before .before .before .before .before .before .before .before .before .before .before .before .before .before .before .before .before .before .before .before .before .before .before .before .before .pre .1 .roomy .below .cells .cells)) (omega (arith, c .if3 .left, c .before .before .before .before .before .before .before .before .before .before .before .draw .ensures .most, c .before .before .before .before .before .before .before .before .before .before .before .before .before .before .before .before .before .drawable .ensures .most, c .before .before .before .before .before .before .before .before .before .before .before .before .before .before .before .before .before .before .before .before .before .loop .inv .4 .short))))
+draw-loop-again-2 t c =
+    let loop-test-said = c .before .before .before .before .before .before .before .before .before .before .before .before .before .before .before .before .before .before .before .before .loop-test in
+    let pass-said = c .before .before .before .pass in
+    let draw-said = c .before .before .before .before .before .before .before .before .before .before .before .draw in
+    let turn = c .before .before .before .before .before .before .before .before .before .before .before .before .before .before .before .before .before .before .before .before .before .loop in
+    let cross-said = c .before .before .before .before .before .before .before .before .before .before .before .before .cross in
+    let asked = c .before .before .before .before .before .before .before .before .before .before .before .before .before .before .before .before .before .before .before .before .before .before .before .before .before .before .before .pre in
+    let drawable-said = c .before .before .before .before .before .before .before .before .before .before .before .before .before .before .before .before .before .drawable in
+    let if2 = c .before .before .before .before .before .before .before .before .before .before .before .before .before .before .before .before .if2 in
+    (omega (arith, loop-test-said .taken), pass-said .kept .1 .0 ∙ draw-said .kept .1 .1 .0 ∙ turn .inv .1, draw-said .kept .1 .1 .1 .0 ∙ turn .inv .2, draw-said .kept .1 .1 .1 .1 .0 ∙ turn .inv .3, rw (pass-said .ensures) (drawing-step (turn .inv .4) (rw (cross-said .ensures) at (draw-said .ensures)) (asked .1 .line) (loop-test-said .taken) (drawable-said .ensures .lower (omega (arith, if2 .left))) (omega (arith, asked .1 .reached)) (drawable-said .ensures .can) (omega (arith, draw-said .kept .1 .1 .0, turn .inv .1, asked .1 .roomy .below .cells .cells)) (omega (arith, c .if3 .left, draw-said .ensures .most, drawable-said .ensures .most, turn .inv .4 .short))))
 
--- src/draw.rt:77:5
 draw-slice-write-marks : (t : ℕ) → draw-lts.Need-slice-write-marks (
   draw-own-reads.Asked,
   draw-own-reads.Learnt,
@@ -359,9 +406,10 @@ draw-slice-write-marks : (t : ℕ) → draw-lts.Need-slice-write-marks (
   pass-reads.Asked,
   pass-reads.Learnt,
 ) (draw-at t) draw.Post draw-Inv-loop draw-μ-loop
-draw-slice-write-marks t c = omega (arith, c .before .before .before .before .before .before .before .pre .1 .line, c .before .before .before .before .before .before .before .pre .1 .lines, c .before .loop .inv .3)
+draw-slice-write-marks t c =
+    let asked = c .before .before .before .before .before .before .before .pre in
+    omega (arith, asked .1 .line, asked .1 .lines, c .before .loop .inv .3)
 
--- src/draw.rt:54:1
 draw-same-length-5 : (t : ℕ) → draw-lts.Need-same-length-5 (
   draw-own-reads.Asked,
   draw-own-reads.Learnt,
@@ -376,7 +424,6 @@ draw-same-length-5 : (t : ℕ) → draw-lts.Need-same-length-5 (
 ) (draw-at t) draw.Post draw-Inv-loop draw-μ-loop
 draw-same-length-5 t c = c .before .loop .inv .1
 
--- src/draw.rt:54:1
 draw-same-length-6 : (t : ℕ) → draw-lts.Need-same-length-6 (
   draw-own-reads.Asked,
   draw-own-reads.Learnt,
@@ -391,7 +438,6 @@ draw-same-length-6 : (t : ℕ) → draw-lts.Need-same-length-6 (
 ) (draw-at t) draw.Post draw-Inv-loop draw-μ-loop
 draw-same-length-6 t c = c .before .loop .inv .2
 
--- src/draw.rt:54:1
 draw-same-length-7 : (t : ℕ) → draw-lts.Need-same-length-7 (
   draw-own-reads.Asked,
   draw-own-reads.Learnt,
@@ -406,7 +452,6 @@ draw-same-length-7 : (t : ℕ) → draw-lts.Need-same-length-7 (
 ) (draw-at t) draw.Post draw-Inv-loop draw-μ-loop
 draw-same-length-7 t c = simp length-set (c .before .loop .inv .3)
 
--- src/draw.rt:54:1
 draw-returns-3 : (t : ℕ) → draw-lts.Need-returns-3 (
   draw-own-reads.Asked,
   draw-own-reads.Learnt,
@@ -419,7 +464,11 @@ draw-returns-3 : (t : ℕ) → draw-lts.Need-returns-3 (
   pass-reads.Asked,
   pass-reads.Learnt,
 ) (draw-at t) draw.Post draw-Inv-loop draw-μ-loop
-draw-returns-3 t c = drawing-end (c .before .loop .inv .4) (c .before .before .before .before .before .before .before .pre .1 .line) (omega (arith, c .before .before .before .before .before .before .before .pre .1 .reached, c .before .before .if1 .left)) (c .before .before .before .before .before .before .before .pre .1 .own) (omega (arith, c .before .before .before .before .before .before .before .pre .1 .line, c .before .before .before .before .before .before .before .pre .1 .lines, c .before .loop .inv .3)) (omega arith)
+draw-returns-3 t c =
+    let asked = c .before .before .before .before .before .before .before .pre in
+    let turn = c .before .loop in
+    let asked = asked in
+    drawing-end (turn .inv .4) (asked .1 .line) (omega (arith, asked .1 .reached, c .before .before .if1 .left)) (asked .1 .own) (omega (arith, asked .1 .line, asked .1 .lines, turn .inv .3)) (omega arith)
 
 pub +draw-spec : {M : Type 1} → statement M
 +draw-spec = close μ-draw λ t. draw-lts.spec (

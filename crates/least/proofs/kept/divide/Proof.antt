@@ -1,4 +1,4 @@
--- `divide` meets its contract. The loop's invariant: the shares and remainders of the cells passed are written, and their shares are summed.
+-- `divide` meets its contract. The loop's invariant: the shares and claims of the cells passed are written, and their shares are summed.
 -- Assumes nothing.
 use Prim.Native.Nat.{_≤_, _-_, _*_}
 use native.Mathlib.Omega.{arith}
@@ -12,16 +12,17 @@ use Rattle.sums.specs.Sums.{sumTo}
 use Rattle.sums.specs.Tables.{tab}
 use Rattle.star.specs.Lines.{lineSum}
 use Rattle.least.specs.Least.{share, remainder}
-use Rattle.least.proofs.Shares.{share-is, remainder-is, part-most, share-most, shares-most, shares-and-missing}
+use Rattle.least.specs.Promises.{claim}
+use Rattle.least.proofs.Shares.{share-is, remainder-is, part-most, share-most, shares-most, shares-and-missing, remainder-fits}
 use Rattle.least.proofs.Sums.{begun-at}
 use Rattle.least.proofs.kept.divide.Statement.{statement}
 use Rattle.least.proofs.kept.divide.Tie as tie
 
 abbrev Inv-loop : tie.InvT-loop
-Inv-loop n cap table line shares₀ remainders₀ capacity sum given₀ t₀ shares remainders given t = (t ≤ n) × (capacity ≡ getD cap line 0) × (sum ≡ lineSum n table line) × (length shares ≡ length shares₀) × (length remainders ≡ length remainders₀) × (shares ≡ tab t (share n cap table line) ++ drop t shares₀) × (remainders ≡ tab t (remainder n cap table line) ++ drop t remainders₀) × (given ≡ sumTo t (share n cap table line))
+Inv-loop n cap table line shares₀ claims₀ capacity sum given₀ t₀ shares claims given t = (t ≤ n) × (capacity ≡ getD cap line 0) × (sum ≡ lineSum n table line) × (length shares ≡ length shares₀) × (length claims ≡ length claims₀) × (shares ≡ tab t (share n cap table line) ++ drop t shares₀) × (claims ≡ tab t (λ u. claim (remainder n cap table line u) u) ++ drop t claims₀) × (given ≡ sumTo t (share n cap table line))
 
 abbrev μ-loop : tie.MeasureT-loop
-μ-loop n cap table line shares₀ remainders₀ capacity sum given₀ t₀ shares remainders given t = n - t
+μ-loop n cap table line shares₀ claims₀ capacity sum given₀ t₀ shares claims given t = n - t
 
 mul-capacity : tie.Need-mul-capacity Inv-loop μ-loop
 mul-capacity c = omega (arith, c .before .before .before .before .pre .0)
@@ -52,23 +53,27 @@ mul-shares c = omega arith
 slice-write-shares : tie.Need-slice-write-shares Inv-loop μ-loop
 slice-write-shares c = omega arith
 
-rem-remainders : tie.Need-rem-remainders Inv-loop μ-loop
-rem-remainders c = omega (arith, c .before .before .before .before .before .before .before .before .before .pre .1 .1, c .before .before .loop .inv .2)
+rem-claim : tie.Need-rem-claim Inv-loop μ-loop
+rem-claim c = omega (arith, c .before .before .before .before .before .before .before .before .before .pre .1 .1, c .before .before .loop .inv .2)
 
-mul-remainders : tie.Need-mul-remainders Inv-loop μ-loop
-mul-remainders c = omega arith
+claim-requires : tie.Need-claim-requires Inv-loop μ-loop
+claim-requires c κs = let pre = c .before .before .before .before .before .before .before .before .before .pre in
+    (remainder-fits _ _ (omega (arith, pre .1 .1, c .before .before .loop .inv .2)) (c .before .before .before .line-sum .ensures .1), omega (arith, pre .0 .square))
 
-slice-write-remainders : tie.Need-slice-write-remainders Inv-loop μ-loop
-slice-write-remainders c = omega arith
+mul-claims : tie.Need-mul-claims Inv-loop μ-loop
+mul-claims c = omega arith
+
+slice-write-claims : tie.Need-slice-write-claims Inv-loop μ-loop
+slice-write-claims c = omega arith
 
 div-given : tie.Need-div-given Inv-loop μ-loop
-div-given c = omega (arith, c .before .before .before .before .before .before .before .before .before .pre .1 .1, c .before .before .loop .inv .2)
+div-given c = omega (arith, c .before .before .before .before .before .before .before .before .before .before .pre .1 .1, c .before .before .before .loop .inv .2)
 
 add-given : tie.Need-add-given Inv-loop μ-loop
-add-given c = let args = c .before .before .before .before .before .before .before .before .before .args in
-    let pre = c .before .before .before .before .before .before .before .before .before .pre in
-    let loop = c .before .before .loop in
-    omega (arith, pre .0 .square, loop .inv .7, shares-most (pre .0) (loop .t) (omega arith), share-is (args .n) (args .cap .now) (args .table .now) (args .line) (loop .t) (c .on-line .ensures) (loop .inv .2), share-most (pre .0) (loop .t) (c .before .loop-test .taken))
+add-given c = let args = c .before .before .before .before .before .before .before .before .before .before .args in
+    let pre = c .before .before .before .before .before .before .before .before .before .before .pre in
+    let loop = c .before .before .before .loop in
+    omega (arith, pre .0 .square, loop .inv .7, shares-most (pre .0) (loop .t) (omega arith), share-is (args .n) (args .cap .now) (args .table .now) (args .line) (loop .t) (c .before .on-line .ensures) (loop .inv .2), share-most (pre .0) (loop .t) (c .before .before .loop-test .taken))
 
 add-t : tie.Need-add-t Inv-loop μ-loop
 add-t c = omega arith
@@ -77,12 +82,14 @@ loop-less : tie.Need-loop-less Inv-loop μ-loop
 loop-less c = omega arith
 
 loop-again : tie.Need-loop-again Inv-loop μ-loop
-loop-again c = let args = c .before .before .before .before .before .before .before .before .before .args in
-    let loop = c .before .before .loop in
+loop-again c = let args = c .before .before .before .before .before .before .before .before .before .before .args in
+    let loop = c .before .before .before .loop in
+    let on-line = c .before .on-line in
     let i = loop .inv in
-    let part = share-is (args .n) (args .cap .now) (args .table .now) (args .line) (loop .t) (c .on-line .ensures) (loop .inv .2) in
-    let over = remainder-is (args .n) (args .cap .now) (args .table .now) (args .line) (loop .t) (c .on-line .ensures) (loop .inv .2) in
-    (omega arith, refl, i .2, simp length-set (i .3), simp length-set (i .4), ap₂ (λ o v. set o (loop .t) v) (i .5) part ∙ tab-more _ (loop .t) (args .shares .now) 0 (omega arith), ap₂ (λ o v. set o (loop .t) v) (i .6) over ∙ tab-more _ (loop .t) (args .remainders .now) 0 (omega arith), omega (arith, i .7, part, sum-more (loop .t) (share (args .n) (args .cap .now) (args .table .now) (args .line))))
+    let part = share-is (args .n) (args .cap .now) (args .table .now) (args .line) (loop .t) (on-line .ensures) (loop .inv .2) in
+    let over = remainder-is (args .n) (args .cap .now) (args .table .now) (args .line) (loop .t) (on-line .ensures) (loop .inv .2) in
+    let claims = c .claim .ensures ∙ ap (λ r. claim r (loop .t)) over in
+    (omega arith, refl, i .2, simp length-set (i .3), simp length-set (i .4), ap₂ (λ o v. set o (loop .t) v) (i .5) part ∙ tab-more _ (loop .t) (args .shares .now) 0 (omega arith), ap₂ (λ o v. set o (loop .t) v) (i .6) claims ∙ tab-more (λ u. claim (remainder (args .n) (args .cap .now) (args .table .now) (args .line) u) u) (loop .t) (args .claims .now) 0 (omega arith), omega (arith, i .7, part, sum-more (loop .t) (share (args .n) (args .cap .now) (args .table .now) (args .line))))
 
 sub-result : tie.Need-sub-result Inv-loop μ-loop
 sub-result c = let args = c .before .before .before .before .before .before .before .before .args in
@@ -103,7 +110,7 @@ returns c = let args = c .before .before .before .before .before .before .before
     let i = loop .inv in
     record {
       each = λ u h. ap (λ l. getD l u 0) (i .5) ∙ begun-at _ _ _ u (omega arith);
-      remains = λ u h. ap (λ l. getD l u 0) (i .6) ∙ begun-at _ _ _ u (omega arith);
+      claimed = λ u h. ap (λ l. getD l u 0) (i .6) ∙ begun-at (λ u. claim (remainder (args .n) (args .cap .now) (args .table .now) (args .line) u) u) _ _ u (omega arith);
       lacks = omega (arith, sum-done _ done (i .7), shares-and-missing (args .n) (args .cap .now) (args .table .now) (args .line) (c .before .before .before .before .before .before .before .before .pre .1 .1));
     }
 
@@ -122,9 +129,10 @@ divide-spec =
     div-shares
     mul-shares
     slice-write-shares
-    rem-remainders
-    mul-remainders
-    slice-write-remainders
+    rem-claim
+    claim-requires
+    mul-claims
+    slice-write-claims
     div-given
     add-given
     add-t

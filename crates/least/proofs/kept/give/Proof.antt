@@ -7,16 +7,16 @@ use lib.Dec.{ltb}
 use lib.ListN.{length, getD}
 use borrow.Author.Needs.{needs}
 use Rattle.sums.specs.Sums.{bit}
-use Rattle.least.specs.Least.{rank}
+use Rattle.least.specs.Promises.{larger}
 use Rattle.least.proofs.Stores.{Rewriting, rewriting-none, rewriting-more, rewriting-all}
 use Rattle.least.proofs.kept.give.Statement.{statement}
 use Rattle.least.proofs.kept.give.Tie as tie
 
 abbrev Inv-loop : tie.InvT-loop
-Inv-loop n table₀ line shares remainders missing t₀ table t = (t ≤ n) × (length table ≡ length table₀) × (Rewriting n line (λ u. getD shares u 0 + bit (ltb (rank n (λ w. getD remainders w 0) u) missing)) t table₀ table)
+Inv-loop n table₀ line shares claims missing t₀ table t = (t ≤ n) × (length table ≡ length table₀) × (Rewriting n line (λ u. getD shares u 0 + bit (ltb (larger n claims u) missing)) t table₀ table)
 
 abbrev μ-loop : tie.MeasureT-loop
-μ-loop n table₀ line shares remainders missing t₀ table t = n - t
+μ-loop n table₀ line shares claims missing t₀ table t = n - t
 
 loop-holds : tie.Need-loop-holds Inv-loop μ-loop
 loop-holds c = (omega arith, refl, rewriting-none _ _ _ _)

@@ -51,7 +51,7 @@ same-length-2 c = search needs
 returns-2 : tie.Need-returns-2
 returns-2 c = let args = c .before .before .before .before .before .before .before .before .before .before .before .before .before .before .before .before .before .before .args in
     record {
-      cut = λ l. rewritten-same _ _ _ _ _ _ (λ t h. divided-shares _ _ _ _ _ _ _ (c .before .before .before .before .before .before .before .before .divide .ensures) t h) (c .before .before .give .ensures);
+      cut = λ l. rewritten-same _ _ _ _ _ _ (λ t h. divided-shares _ _ _ _ _ _ _ (c .before .before .before .before .before .before .before .before .before .before .before .before .before .before .before .before .before .before .pre .square .nodes) (c .before .before .before .before .before .before .before .before .divide .ensures) t h) (c .before .before .give .ensures);
       uncut = λ l. absurd (omega (arith, shorter-is (args .n) (args .cap .now) (args .table .now) (args .line) l, c .before .before .before .before .before .before .before .before .before .before .before .before .before .before .line-sum .ensures .0, c .before .before .before .before .before .before .before .before .before .before .before .before .if1));
     }
 

@@ -25,7 +25,7 @@ share-line-requires c κs = let pre = c .before .before .before .before .before 
     let loop = c .before .before .loop in
     record {
       square = record { nodes = pre .nodes; cells = omega (arith, pre .exact, loop .inv .2) };
-      demands = demands-below _ _ _ (cutting-below (loop .inv .3)) (pre .demands);
+      demands = demands-below _ _ _ (pre .demands) (cutting-below (loop .inv .3));
       capacities = pre .capacities;
       line = omega arith;
     }

@@ -1,15 +1,12 @@
+-- `levels::pairs::seat_of` gives the place on crossing lines: the two cases of the definition. Assumes nothing.
 use mathlib.Core.Path.{sym}
 use Rattle.levels.proofs.Crossings.{seat-row, seat-column}
 use Rattle.levels.proofs.pairs.seat_of.Statement.{statement}
 use Rattle.levels.proofs.pairs.seat_of.Tie as tie
-use Rattle.levels.proofs.pairs.seat_of.Reads as reads
-use Rattle.levels.proofs.pairs.seat_of.Lts as lts
 
--- src/pairs.rt:17:1
 returns : tie.Need-returns
 returns c = sym (seat-row _ _ (c .if1 .taken))
 
--- src/pairs.rt:17:1
 returns-2 : tie.Need-returns-2
 returns-2 c = sym (seat-column _ _ (c .if1 .left))
 

@@ -1,15 +1,13 @@
+-- `levels::search::mark_starts` meets its contract. The loop's invariant: the lines passed have their first level. The measure is what is left
+-- of the lines. Assumes nothing.
 use Prim.Native.Nat.{_≤_, _-_, _*_}
 use native.Mathlib.Omega.{arith}
-use borrow.Author.Needs.{needs}
+use mathlib.Core.Path.{_≡_, refl}
 use lib.ListN.{length, length-set}
-use mathlib.Core.Path.{_≡_, refl, _∙_}
-use Rattle.levels.proofs.Growing.{started-none, started-more}
 use Rattle.levels.specs.Searches.{Started}
+use Rattle.levels.proofs.Growing.{started-none, started-more}
 use Rattle.levels.proofs.search.mark_starts.Statement.{statement}
 use Rattle.levels.proofs.search.mark_starts.Tie as tie
-use Rattle.levels.proofs.search.mark_starts.Reads as reads
-use Rattle.levels.proofs.search.mark_starts.Lts as lts
-use Rattle.levels.proofs.search.first_level.Reads as first-level-reads
 
 abbrev Inv-loop : tie.InvT-loop
 Inv-loop n room marks₀ lines line₀ marks line = (line ≤ lines) × (length marks ≡ length marks₀) × Started n room marks line
@@ -17,39 +15,32 @@ Inv-loop n room marks₀ lines line₀ marks line = (line ≤ lines) × (length 
 abbrev μ-loop : tie.MeasureT-loop
 μ-loop n room marks₀ lines line₀ marks line = lines - line
 
--- src/search.rt:29:17
 mul-lines : tie.Need-mul-lines Inv-loop μ-loop
 mul-lines c = omega arith
 
--- src/search.rt:31:5
 loop-holds : tie.Need-loop-holds Inv-loop μ-loop
 loop-holds c = (omega arith, refl, started-none _ _ _)
 
--- src/search.rt:32:23
 first-level-requires : tie.Need-first-level-requires Inv-loop μ-loop
 first-level-requires c κs = (omega arith, omega arith)
 
--- src/search.rt:32:9
 slice-write-marks : tie.Need-slice-write-marks Inv-loop μ-loop
 slice-write-marks c = omega arith
 
--- src/search.rt:33:9
 add-line : tie.Need-add-line Inv-loop μ-loop
 add-line c = omega arith
 
--- src/search.rt:31:5
 loop-less : tie.Need-loop-less Inv-loop μ-loop
 loop-less c = omega arith
 
--- src/search.rt:31:5
 loop-again : tie.Need-loop-again Inv-loop μ-loop
-loop-again c = (omega arith, simp length-set (c .before .before .loop .inv .1), started-more _ _ _ _ _ (c .before .before .loop .inv .2) (omega arith) (c .first-level .ensures))
+loop-again c =
+    let turn = c .before .before .loop in
+    (omega arith, simp length-set (turn .inv .1), started-more _ _ _ _ _ (turn .inv .2) (omega arith) (c .first-level .ensures))
 
--- src/search.rt:25:1
 same-length : tie.Need-same-length Inv-loop μ-loop
 same-length c = c .before .loop .inv .1
 
--- src/search.rt:25:1
 returns : tie.Need-returns Inv-loop μ-loop
 returns c = let done : c .before .loop .line ≡ 2 * c .before .before .before .before .args .n = omega arith in rw done at (c .before .loop .inv .2)
 
