@@ -1,0 +1,64 @@
+use borrow.Author.Needs.{needs}
+use Rattle.slots.proofs.placing.place_with.Statement.{statement}
+use Rattle.slots.proofs.placing.place_with.Tie as tie
+use Rattle.slots.proofs.placing.place_with.Reads as reads
+use Rattle.slots.proofs.placing.place_with.Lts as lts
+use Rattle.holds.proofs.writing.write.Reads as write-reads
+use Rattle.idle.proofs.copy.Reads as copy-reads
+use Rattle.idle.proofs.pad.Reads as pad-reads
+use Rattle.slots.proofs.rounds.settle.Reads as settle-reads
+
+-- src/placing.rt:14:5
+copy-requires : tie.Need-copy-requires
+copy-requires c κs = ?
+
+-- src/placing.rt:15:13
+pad-requires : tie.Need-pad-requires
+pad-requires c κs = ?
+
+-- src/placing.rt:15:13
+cast-r : tie.Need-cast-r
+cast-r c = search needs
+
+-- src/placing.rt:16:5
+settle-requires : tie.Need-settle-requires
+settle-requires c κs = ?
+
+-- src/placing.rt:17:40
+slice-aggregate-write : tie.Need-slice-aggregate-write
+slice-aggregate-write c = search needs
+
+-- src/placing.rt:17:5
+write-requires : tie.Need-write-requires
+write-requires c κs = ?
+
+-- src/placing.rt:8:1
+same-length : tie.Need-same-length
+same-length c = search needs
+
+-- src/placing.rt:8:1
+same-length-2 : tie.Need-same-length-2
+same-length-2 c = search needs
+
+-- src/placing.rt:8:1
+same-length-3 : tie.Need-same-length-3
+same-length-3 c = search needs
+
+-- src/placing.rt:8:1
+returns : tie.Need-returns
+returns c = ?
+
+pub place-with-spec : {M : Type 1} → statement M
+place-with-spec =
+    tie.close
+    (tie.spec
+    copy-requires
+    pad-requires
+    cast-r
+    settle-requires
+    slice-aggregate-write
+    write-requires
+    same-length
+    same-length-2
+    same-length-3
+    returns)
