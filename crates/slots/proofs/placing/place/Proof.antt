@@ -1,3 +1,5 @@
+use Rattle.sums.proofs.Tables.{mul-small}
+use native.Mathlib.Omega.{arith}
 use borrow.Author.Needs.{needs}
 use Rattle.slots.proofs.placing.place.Statement.{statement}
 use Rattle.slots.proofs.placing.place.Tie as tie
@@ -15,7 +17,7 @@ slice-aggregate-place-with-2 c = search needs
 
 -- src/placing.rt:28:5
 place-with-requires : tie.Need-place-with-requires
-place-with-requires c κs = ?
+place-with-requires c κs = (c .before .before .before .before .before .pre, (record { nodes = c .before .before .before .before .before .pre .square .nodes; cells = omega (arith, mul-small (c .before .before .before .before .before .args .nodes) (c .before .before .before .before .before .args .nodes) (c .before .before .before .before .before .pre .square .nodes) (c .before .before .before .before .before .pre .square .nodes)) }, record { nodes = c .before .before .before .before .before .pre .square .nodes; cells = omega (arith, mul-small (c .before .before .before .before .before .args .nodes) (c .before .before .before .before .before .args .nodes) (c .before .before .before .before .before .pre .square .nodes) (c .before .before .before .before .before .pre .square .nodes)) }))
 
 -- src/placing.rt:22:1
 same-length : tie.Need-same-length

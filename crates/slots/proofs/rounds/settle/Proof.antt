@@ -1,3 +1,4 @@
+use native.Mathlib.Omega.{arith}
 use borrow.Author.Needs.{needs}
 use Rattle.slots.proofs.rounds.settle.Statement.{statement}
 use Rattle.slots.proofs.rounds.settle.Tie as tie
@@ -36,7 +37,7 @@ slice-aggregate-rounds-3 c = search needs
 
 -- src/rounds.rt:37:5
 rounds-requires : tie.Need-rounds-requires
-rounds-requires c κs = ?
+rounds-requires c κs = record { settle = c .before .before .before .before .before .before .before .before .before .before .before .before .before .before .before .pre; rooms = record { nodes = c .before .before .before .before .before .before .before .before .before .before .before .before .before .before .before .pre .table .nodes; mays = omega (arith, c .before .before .before .before .before .before .before .before .before .before .before .before .before .before .before .pre .table .nodes); sources = omega (arith, c .before .before .before .before .before .before .before .before .before .before .before .before .before .before .before .pre .table .nodes, c .before .before .before .before .before .before .before .before .before .before .fill .kept .0); destinations = omega (arith, c .before .before .before .before .before .before .before .before .before .before .before .before .before .before .before .pre .table .nodes, c .before .before .before .before .before .before .before .fill2 .kept .0) }; no-source = c .before .before .before .before .before .before .before .before .before .before .fill .ensures; no-destination = c .before .before .before .before .before .before .before .fill2 .ensures }
 
 -- src/rounds.rt:28:1
 same-length : tie.Need-same-length
