@@ -30,7 +30,7 @@ use Rattle.run.specs.Checks.{Ranges}
 use Rattle.run.specs.Calls.{Held, FreshCall, PostCall, FrameCall}
 use Rattle.run.specs.Histories.{Lent, Event, posting, framing, outcome, Happens, History, started, continued, arrived, carried, queue, exceeded, postsOf, framesOf, met, given, BooksHold}
 use Rattle.run.proofs.Verdicts.{never, fresh-accepted, post-accepted}
-use Rattle.run.proofs.PlanLaws.{at-place, plan-below, plan-most, met-ext}
+use Rattle.run.proofs.SentLaws.{at-place, plan-below, plan-most, met-ext}
 
 -- ---- a pair of a table that was written by a rule
 module _ (n : ℕ) (f : ℕ → ℕ) (old : List ℕ) (i j : ℕ) (hi : i < n) (hj : j < n) where

@@ -1,7 +1,6 @@
 -- What each entry owes once its verdict is known: nothing changes after a refusal, and after an acceptance the work has the room that it asks
 -- and leaves what the contract says. Assumes nothing.
 use Prim.Native.Nat.{ℕ, _+_, _-_, _*_, _<_, _^_, min}
-use native.Mathlib.Nat.{le-of-eq}
 use native.Mathlib.Omega.{arith}
 use mathlib.Core.Path.{_≡_, refl, sym, _∙_}
 use mathlib.Core.List.{List}
@@ -12,15 +11,15 @@ use Rattle.star.specs.declared.refusals.Verdict.{Verdict}
 use Rattle.star.specs.declared.refusals.Verdict.the-variants.{Accepted, Refused}
 use Rattle.star.specs.Tables.{Square}
 use Rattle.star.specs.Lines.{wholeFrame}
-use Rattle.star.proofs.LineLaws.{capacity, whole-frame-fits}
 use Rattle.planner.specs.declared.answers.Answer.{Answer}
 use Rattle.planner.specs.declared.answers.Answer.the-variants as answer
 use Rattle.planner.specs.Plans.{verdictOf, PlanRoom, Wrote}
+use Rattle.planner.proofs.PlanLaws.{whole-room}
 use Rattle.books.specs.Rooms.{Tables, Adds, Arrives, Drops, Takes}
 use Rattle.run.specs.declared.record.Run.{Run}
 use Rattle.run.specs.Runs.{freshVerdict, cleared, Freshened, postVerdict, postWaiting, postPosted, postDropped, Posted, frameVerdict, Framed}
 use Rattle.run.proofs.Verdicts.{never, PostFits, FrameFits, fresh-accepted, post-accepted, frame-accepted}
-use Rattle.run.proofs.PlanLaws.{plan-below-at}
+use Rattle.run.proofs.SentLaws.{plan-below-at}
 
 -- ---- fresh
 module _ (old : Run) (n l limit rule : ℕ) (waiting posted sent dropped : List ℕ) {v : Verdict}
@@ -111,20 +110,12 @@ module _ {old : Run} {waiting posted sent dropped kept withdrawn schedule : List
     (fits : FrameFits old waiting posted sent dropped (length kept) (length withdrawn) (length schedule)) where
   -- all checks have passed, so that the queues can be planned, each line with the whole frame
   pub frame-room : PlanRoom (old .nodes) (old .slots) (old .rule) (wholeFrame (old .nodes) (old .slots)) waiting kept withdrawn schedule
-  frame-room = record {
-    some-nodes = fits .ranges .some-nodes;
-    nodes = fits .ranges .nodes;
-    some-slots = fits .ranges .some-slots;
-    slots = fits .ranges .slots;
-    known-rule = fits .ranges .known-rule;
-    demand = fits .tables .queues .cells;
-    within = record { most = λ p h. omega (arith, fits .order .books p h) };
-    lines = whole-frame-fits (old .nodes) (old .slots) (fits .ranges .slots) .lines;
-    most = λ ℓ h. le-of-eq (capacity (old .nodes) (old .slots) ℓ h);
-    kept-room = fits .kept-room;
-    withdrawn-room = fits .withdrawn-room;
-    schedule-room = fits .schedule-room;
-  }
+  frame-room =
+      whole-room
+      (fits .ranges .some-nodes, fits .ranges .nodes, fits .ranges .some-slots, fits .ranges .slots, fits .ranges .known-rule)
+      (fits .tables .queues .cells)
+      (record { most = λ p h. omega (arith, fits .order .books p h) })
+      (fits .kept-room, fits .withdrawn-room, fits .schedule-room)
 
   module _ {kept' withdrawn' schedule' : List ℕ} {r : Answer} (same : length kept' ≡ length kept)
       (wrote : Wrote (old .nodes) (old .slots) (old .rule) (wholeFrame (old .nodes) (old .slots)) waiting kept withdrawn schedule kept' withdrawn' schedule' r) where
