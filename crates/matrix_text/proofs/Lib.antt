@@ -1,0 +1,2 @@
+-- The laws of the input list and of the printed text, and examples by computation.
+pub mod Examples

@@ -1,0 +1,1 @@
+// The matrix program's work: from the bytes that it reads to the bytes that it writes.
