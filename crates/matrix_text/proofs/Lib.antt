@@ -1,2 +1,3 @@
 -- The laws of the input list and of the printed text, and examples by computation.
 pub mod Examples
+pub mod InputLaws

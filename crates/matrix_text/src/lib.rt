@@ -1,1 +1,2 @@
 // The matrix program's work: from the bytes that it reads to the bytes that it writes.
+pub mod input;
