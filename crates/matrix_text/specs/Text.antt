@@ -22,30 +22,37 @@ joinTo (suc m) f = joinTo m f ++ f m
 abbrev pub lineFeed : List ℕ
 lineFeed = 10 ∷ []
 
+-- a word and a number
+unfoldable pub named : (word : List ℕ) (n : ℕ) → List ℕ
+named word n = word ++ decimal n
+
 -- "bad input", and a line feed
 abbrev pub badInput : List ℕ
 badInput = 98 ∷ 97 ∷ 100 ∷ 32 ∷ 105 ∷ 110 ∷ 112 ∷ 117 ∷ 116 ∷ 10 ∷ []
 
 -- A refusal prints one line, as `refused 6 3`: the number, the place.
 unfoldable pub refusalText : (number place : ℕ) → List ℕ
-refusalText number place = (114 ∷ 101 ∷ 102 ∷ 117 ∷ 115 ∷ 101 ∷ 100 ∷ 32 ∷ []) ++ decimal number ++ (32 ∷ []) ++ decimal place ++ lineFeed
+refusalText number place = named (114 ∷ 101 ∷ 102 ∷ 117 ∷ 115 ∷ 101 ∷ 100 ∷ 32 ∷ []) number ++ named (32 ∷ []) place ++ lineFeed
 
 -- Line 1 gives N, L and the rule: `nodes 2 slots 10 rule 1`.
 unfoldable pub headText : (n l rule : ℕ) → List ℕ
 headText n l rule =
-    (110 ∷ 111 ∷ 100 ∷ 101 ∷ 115 ∷ 32 ∷ []) ++ decimal n
-    ++ (32 ∷ 115 ∷ 108 ∷ 111 ∷ 116 ∷ 115 ∷ 32 ∷ []) ++ decimal l
-    ++ (32 ∷ 114 ∷ 117 ∷ 108 ∷ 101 ∷ 32 ∷ []) ++ decimal rule ++ lineFeed
+    named (110 ∷ 111 ∷ 100 ∷ 101 ∷ 115 ∷ 32 ∷ []) n
+    ++ named (32 ∷ 115 ∷ 108 ∷ 111 ∷ 116 ∷ 115 ∷ 32 ∷ []) l
+    ++ named (32 ∷ 114 ∷ 117 ∷ 108 ∷ 101 ∷ 32 ∷ []) rule
+    ++ lineFeed
 
 -- Line 2 gives the two totals: `kept 10 refused 2`.
 unfoldable pub totalsText : (kept refused : ℕ) → List ℕ
-totalsText kept refused =
-    (107 ∷ 101 ∷ 112 ∷ 116 ∷ 32 ∷ []) ++ decimal kept
-    ++ (32 ∷ 114 ∷ 101 ∷ 102 ∷ 117 ∷ 115 ∷ 101 ∷ 100 ∷ 32 ∷ []) ++ decimal refused ++ lineFeed
+totalsText kept refused = named (107 ∷ 101 ∷ 112 ∷ 116 ∷ 32 ∷ []) kept ++ named (32 ∷ 114 ∷ 101 ∷ 102 ∷ 117 ∷ 115 ∷ 101 ∷ 100 ∷ 32 ∷ []) refused ++ lineFeed
 
--- One line per source with its kept slots by destination: each number is followed by a space, the last one by a line feed.
+-- what follows the number of destination j: a space, or a line feed after the last one
+abbrev pub markAfter : (n j : ℕ) → ℕ
+markAfter n j = cond (eqb (j + 1) n) 10 32
+
+-- One line per source with its kept slots by destination.
 unfoldable pub cellText : (n : ℕ) (kept : List ℕ) (i j : ℕ) → List ℕ
-cellText n kept i j = decimal (cell n kept i j) ++ (cond (eqb (j + 1) n) 10 32 ∷ [])
+cellText n kept i j = decimal (cell n kept i j) ++ (markAfter n j ∷ [])
 
 unfoldable pub rowText : (n : ℕ) (kept : List ℕ) (i : ℕ) → List ℕ
 rowText n kept i = joinTo n (cellText n kept i)
