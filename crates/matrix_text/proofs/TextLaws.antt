@@ -1,20 +1,18 @@
--- Text written piece by piece: two pieces one after the other are one piece, and where each piece fits; decimal digits and how many there are.
--- The laws assume nothing.
+-- Text written piece by piece: two pieces one after the other are one piece; decimal digits and how many there are; how long a text is, and that
+-- the longest fits. The laws assume nothing.
 use Prim.Native.Nat.{ℕ, zero, suc, _+_, _-_, _*_, _/_, _%_, _^_, _≤_, _<_}
 use native.Mathlib.Omega.{arith}
-use native.Mathlib.Nat.{div-lt-iff-lt-mul, pow-suc}
+use native.Mathlib.Nat.{pow-suc}
 use native.Mathlib.Numerals.{add-one}
 use mathlib.Core.Path.{_≡_, refl, sym, _∙_, ap}
-use mathlib.Core.Bool.{Bool, true, false}
 use mathlib.Core.List.{List, [], _∷_, _++_, append-assoc, append-nil}
-use lib.Dec.{ltb}
-use lib.ListN.{length, take, drop, set, length-append, take-append-drop}
+use lib.ListN.{length, getD, take, drop, set, length-append, take-append-drop}
 use lib.Seq.{take-at, drop-drop, drop-append-add, set-split, take-length, length-take-le, append-snoc, paste}
 use borrow.Author.Tests.{lt-ltb, le-ltb}
-use Rattle.sums.specs.Sums.{sumTo}
-use Rattle.sums.specs.Tables.{written}
+use Rattle.sums.specs.Tables.{cell, written}
 use Rattle.sums.proofs.Cases.{by-lt}
-use Rattle.matrix_text.specs.Text.{decimal, digitsIn, joinTo}
+use Rattle.sums.proofs.Tables.{mul-small}
+use Rattle.matrix_text.specs.Text.{decimal, digitsIn, joinTo, named, refusalText, headText, totalsText, cellText, rowText, rowsText, planText, room}
 use Rattle.matrix_text.specs.Writes.{Appended}
 
 -- ---- pieces
@@ -38,16 +36,16 @@ appended-front out out' text r a = let e : r ≡ length text = omega (arith, a .
 
 -- one piece after another
 module _ {out mid out' : List ℕ} {at next at' : ℕ} {text more : List ℕ} (fits : at + length text ≤ length out) (a : Appended out mid at next text) (b : Appended mid out' next at' more) where
-  head-length : length (take at out ++ text) ≡ next
-  head-length = length-append (take at out) text ∙ omega (arith, length-take-le at out (omega arith), a .end)
+  first-length : length (take at out ++ text) ≡ next
+  first-length = length-append (take at out) text ∙ omega (arith, length-take-le at out (omega arith), a .end)
 
   mid-first : take next mid ≡ take at out ++ text
-  mid-first = ap (take next) (a .bytes) ∙ take-at (take at out ++ text) (drop next out) next head-length
+  mid-first = ap (take next) (a .bytes) ∙ take-at (take at out ++ text) (drop next out) next first-length
 
   mid-rest : drop at' mid ≡ drop at' out
   mid-rest =
       ap (drop at') (a .bytes)
-      ∙ ap (λ k. drop k (take at out ++ text ++ drop next out)) (b .end ∙ ap (λ k. k + length more) (sym head-length))
+      ∙ ap (λ k. drop k (take at out ++ text ++ drop next out)) (b .end ∙ ap (λ k. k + length more) (sym first-length))
       ∙ drop-append-add (take at out ++ text) (drop next out) (length more)
       ∙ drop-drop (length more) next out
       ∙ ap (λ k. drop k out) (sym (b .end))
@@ -119,3 +117,48 @@ module _ (f : ℕ → List ℕ) where
   unfolding joinTo
   join-most zero c most = omega arith
   join-most (suc n) c most = omega (arith, length-append (joinTo n f) (f n), join-most n c (λ k h. most k (omega arith)), most n (omega arith))
+
+-- ---- how long a text is
+-- a number of 32 bits has at most ten digits
+word-length : (n : ℕ) → n < 4294967296 → length (decimal n) ≤ 10
+word-length n h = decimal-length 9 n (omega arith)
+
+named-length : (word : List ℕ) (n : ℕ) → n < 4294967296 → length (named word n) ≤ length word + 10
+unfolding named
+named-length word n h = omega (arith, length-append word (decimal n), word-length n h)
+
+pub refusal-fits : (number place : ℕ) → number < 4294967296 → place < 4294967296 → length (refusalText number place) ≤ room
+unfolding refusalText
+refusal-fits number place hn hp = simp length-append (omega (arith, named-length (114 ∷ 101 ∷ 102 ∷ 117 ∷ 115 ∷ 101 ∷ 100 ∷ 32 ∷ []) number hn, named-length (32 ∷ []) place hp))
+
+head-length : (n l rule : ℕ) → n < 4294967296 → l < 4294967296 → rule < 4294967296 → length (headText n l rule) ≤ 50
+unfolding headText
+head-length n l rule hn hl hr =
+    simp length-append
+    (omega (
+      arith,
+      named-length (110 ∷ 111 ∷ 100 ∷ 101 ∷ 115 ∷ 32 ∷ []) n hn,
+      named-length (32 ∷ 115 ∷ 108 ∷ 111 ∷ 116 ∷ 115 ∷ 32 ∷ []) l hl,
+      named-length (32 ∷ 114 ∷ 117 ∷ 108 ∷ 101 ∷ 32 ∷ []) rule hr,
+    ))
+
+totals-length : (k f : ℕ) → k < 4294967296 → f < 4294967296 → length (totalsText k f) ≤ 35
+unfolding totalsText
+totals-length k f hk hf = simp length-append (omega (arith, named-length (107 ∷ 101 ∷ 112 ∷ 116 ∷ 32 ∷ []) k hk, named-length (32 ∷ 114 ∷ 101 ∷ 102 ∷ 117 ∷ 115 ∷ 101 ∷ 100 ∷ 32 ∷ []) f hf))
+
+module _ (n : ℕ) (kept : List ℕ) (words : (p : ℕ) → getD kept p 0 < 4294967296) where
+  cell-length : (i j : ℕ) → length (cellText n kept i j) ≤ 11
+  unfolding cellText cell
+  cell-length i j = simp length-append (omega (arith, word-length (getD kept (i * n + j) 0) (words (i * n + j))))
+
+  row-length : (i : ℕ) → length (rowText n kept i) ≤ n * 11
+  unfolding rowText
+  row-length i = join-most (cellText n kept i) n 11 (λ j h. cell-length i j)
+
+  rows-length : n ≤ 64 → length (rowsText n kept) ≤ 45056
+  unfolding rowsText
+  rows-length few = omega (arith, join-most (rowText n kept) n (n * 11) (λ i h. row-length i), mul-small n n few few)
+
+  pub plan-fits : (l rule k f : ℕ) → n ≤ 64 → l < 4294967296 → rule < 4294967296 → k < 4294967296 → f < 4294967296 → length (planText n l rule k f kept) ≤ room
+  unfolding planText
+  plan-fits l rule k f few hl hr hk hf = simp length-append (omega (arith, head-length n l rule (omega arith) hl hr, totals-length k f hk hf, rows-length few))

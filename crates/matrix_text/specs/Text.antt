@@ -63,3 +63,8 @@ rowsText n kept = joinTo n (rowText n kept)
 -- the plan without the schedule: N, L, the rule, the two totals, and the kept matrix
 unfoldable pub planText : (n l rule keptTotal refusedTotal : ℕ) (kept : List ℕ) → List ℕ
 planText n l rule keptTotal refusedTotal kept = headText n l rule ++ totalsText keptTotal refusedTotal ++ rowsText n kept
+
+-- Room for the longest text of numbers with at most ten digits: 64 lines of 64 numbers, each with the byte after it, under lines of at most 50
+-- and 35 bytes.
+abbrev pub room : ℕ
+room = 45141

@@ -5,7 +5,7 @@ ghost use mathlib.Core.List.{[], _∷_};
 ghost use Prim.Native.Nat.{_+_, _≤_, _<_};
 ghost use lib.ListN.{length};
 ghost use Rattle.star.specs.Tables.{Square};
-ghost use Rattle.matrix_text.specs.Text.{decimal, named, badInput, refusalText, headText, totalsText, markAfter, cellText, rowText, rowsText, planText};
+ghost use Rattle.matrix_text.specs.Text.{decimal, named, badInput, refusalText, headText, totalsText, markAfter, cellText, rowText, rowsText, planText, room};
 ghost use Rattle.matrix_text.specs.Writes.{Appended};
 
 fn put_byte(out: &mut [u8], at: usize, b: u8) -> usize
@@ -112,14 +112,14 @@ fn put_totals(out: &mut [u8], at: usize, kept: u32, refused: u32) -> usize
 }
 
 pub fn put_bad_input(out: &mut [u8]) -> usize
-    requires { ⌜ length badInput ≤ length (now out) ⌝ }
+    requires { ⌜ room ≤ length (now out) ⌝ }
     ensures { λ r. ⌜ Appended (now (out .entry)) (now (out .exit)) 0 r badInput ⌝ }
 {
     put_bytes(out, 0, b"bad input\n")
 }
 
 pub fn put_refusal(out: &mut [u8], number: u32, place: u32) -> usize
-    requires { ⌜ length (refusalText number place) ≤ length (now out) ⌝ }
+    requires { ⌜ room ≤ length (now out) ⌝ }
     ensures { λ r. ⌜ Appended (now (out .entry)) (now (out .exit)) 0 r (refusalText number place) ⌝ }
 {
     let after_number = put_named(out, 0, b"refused ", number);
@@ -129,7 +129,7 @@ pub fn put_refusal(out: &mut [u8], number: u32, place: u32) -> usize
 
 pub fn put_plan(out: &mut [u8], nodes: u32, slots: u32, rule: u32, keeps: u32, refuses: u32, kept: &[u32]) -> usize
     requires { ⌜ Square nodes (now kept) ⌝ }
-    requires { ⌜ length (planText nodes slots rule keeps refuses (now kept)) ≤ length (now out) ⌝ }
+    requires { ⌜ room ≤ length (now out) ⌝ }
     ensures { λ r. ⌜ Appended (now (out .entry)) (now (out .exit)) 0 r (planText nodes slots rule keeps refuses (now (kept .entry))) ⌝ }
 {
     let after_head = put_head(out, 0, nodes, slots, rule);

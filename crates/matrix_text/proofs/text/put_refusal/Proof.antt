@@ -1,3 +1,4 @@
+use Rattle.matrix_text.proofs.TextLaws.{refusal-fits}
 use mathlib.Core.Path.{_∙_}
 use native.Mathlib.Omega.{arith}
 use lib.ListN.{length-append}
@@ -18,7 +19,7 @@ slice-aggregate-put-named c = search needs
 -- src/text.rt:125:9
 put-named-requires : tie.Need-put-named-requires
 unfolding refusalText
-put-named-requires c κs = omega (arith, simp length-append at (c .before .before .before .pre))
+put-named-requires c κs = omega (arith, simp length-append at (refusal-fits (c .before .before .before .args .number) (c .before .before .before .args .place) (omega arith) (omega arith)))
 
 -- src/text.rt:126:52
 slice-aggregate-put-named-2 : tie.Need-slice-aggregate-put-named-2
@@ -27,12 +28,12 @@ slice-aggregate-put-named-2 c = search needs
 -- src/text.rt:126:9
 put-named-requires-2 : tie.Need-put-named-requires-2
 unfolding refusalText
-put-named-requires-2 c κs = omega (arith, simp length-append at (c .before .before .before .before .before .before .before .before .pre), c .before .before .before .before .put-named .ensures .end, c .before .before .before .before .put-named .kept .0)
+put-named-requires-2 c κs = omega (arith, simp length-append at (refusal-fits (c .before .before .before .before .before .before .before .before .args .number) (c .before .before .before .before .before .before .before .before .args .place) (omega arith) (omega arith)), c .before .before .before .before .put-named .ensures .end, c .before .before .before .before .put-named .kept .0)
 
 -- src/text.rt:127:5
 put-byte-requires : tie.Need-put-byte-requires
 unfolding refusalText
-put-byte-requires c κs = omega (arith, simp length-append at (c .before .before .before .before .before .before .before .before .before .before .before .before .pre), c .before .before .before .before .before .before .before .before .put-named .ensures .end, c .before .before .before .before .before .before .before .before .put-named .kept .0, c .before .before .before .put-named2 .ensures .end, c .before .before .before .put-named2 .kept .0)
+put-byte-requires c κs = omega (arith, simp length-append at (refusal-fits (c .before .before .before .before .before .before .before .before .before .before .before .before .args .number) (c .before .before .before .before .before .before .before .before .before .before .before .before .args .place) (omega arith) (omega arith)), c .before .before .before .before .before .before .before .before .put-named .ensures .end, c .before .before .before .before .before .before .before .before .put-named .kept .0, c .before .before .before .put-named2 .ensures .end, c .before .before .before .put-named2 .kept .0)
 
 -- src/text.rt:121:1
 same-length : tie.Need-same-length
@@ -41,9 +42,9 @@ same-length c = c .before .before .put-byte .kept .0 ∙ c .before .before .befo
 -- src/text.rt:121:1
 returns : tie.Need-returns
 unfolding refusalText
-returns c = let room = simp length-append at (c .before .before .before .before .before .before .before .before .before .before .before .before .before .before .before .pre) in
-      appended-more (simp length-append (omega (arith, room)))
-      (appended-more (omega (arith, room)) (c .before .before .before .before .before .before .before .before .before .before .before .put-named .ensures) (c .before .before .before .before .before .before .put-named2 .ensures))
+returns c = let fits = simp length-append at (refusal-fits (c .before .before .before .before .before .before .before .before .before .before .before .before .before .before .before .args .number) (c .before .before .before .before .before .before .before .before .before .before .before .before .before .before .before .args .place) (omega arith) (omega arith)) in
+      appended-more (simp length-append (omega (arith, fits)))
+      (appended-more (omega (arith, fits)) (c .before .before .before .before .before .before .before .before .before .before .before .put-named .ensures) (c .before .before .before .before .before .before .put-named2 .ensures))
       (c .before .before .put-byte .ensures)
 
 pub put-refusal-spec : {M : Type 1} → statement M
