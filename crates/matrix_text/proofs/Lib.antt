@@ -2,3 +2,4 @@
 pub mod Examples
 pub mod InputLaws
 pub mod TextLaws
+pub mod OutcomeLaws

@@ -1,0 +1,183 @@
+-- What is printed of plan's answer is what document 01's order asks: plan gives 1, 2 and 3 before it looks at the demand, and where the count of
+-- demands is right, the demand that it is lent is the input's. The laws assume nothing.
+use Prim.Native.Nat.{ℕ, zero, suc, _+_, _-_, _*_, _≤_, _<_}
+use native.Mathlib.Omega.{arith}
+use native.Mathlib.Nat.{mul-le-mul}
+use mathlib.Core.Path.{_≡_, refl, sym, _∙_, ap, subst}
+use mathlib.Core.Bool.{Bool, true, false, _||_}
+use mathlib.Core.List.{List, [], _∷_, _++_}
+use lib.Dec.{ltb, eqb}
+use lib.ListN.{length, getD, take, drop}
+use lib.Seq.{getD-take, take-all}
+use borrow.Author.Tests.{ltb-false, eqb-true, le-ltb}
+use Rattle.sums.proofs.Tables.{mul-small}
+use Rattle.star.specs.declared.refusals.Refusal.{Refusal}
+use Rattle.star.specs.declared.refusals.Refusal.the-variants.{Nodes, Slots, Rule, DemandShort, TableShort, DemandAbove}
+use Rattle.star.specs.declared.refusals.Verdict.{Verdict}
+use Rattle.star.specs.declared.refusals.Verdict.the-variants as verdict
+use Rattle.star.specs.Refusals.{refuse, nodesOut, slotsOut, ruleOut, short, someCell, firstAbove, refusalNumber, refusalPlace}
+use Rattle.star.specs.Tables.{Square}
+use Rattle.star.specs.Lines.{total, wholeFrame}
+use Rattle.star.proofs.RefusalLaws.{fires, passes, neither}
+use Rattle.planner.specs.declared.answers.Answer.{Answer}
+use Rattle.planner.specs.declared.answers.Answer.the-variants.{Planned, Refused}
+use Rattle.planner.specs.Plans.{verdictOf, keptTotal, refusedTotal, changes, planVerdict, Plan, PlanResult}
+use Rattle.matrix_text.specs.Text.{badInput, refusalText, planText}
+use Rattle.matrix_text.specs.Outcomes.{Outcome, BadInput, Refuses, Plans, orElse, judge, outcomeText, Prints}
+use Rattle.matrix_text.specs.Writes.{Stored, refusedText, answerText, Printable}
+
+-- ---- tests
+by-test {ℓ} : {P : Type ℓ} (b : Bool) → (b ≡ true → P) → (b ≡ false → P) → P
+by-test true f g = f refl
+by-test false f g = g refl
+
+or-left : (a b : Bool) → (a || b) ≡ false → a ≡ false
+or-left true b e = e
+or-left false b e = refl
+
+or-right : (a b : Bool) → (a || b) ≡ false → b ≡ false
+or-right true b e = absurd (let z : _≡_ {A = ℕ} 0 1 = cc in omega arith)
+or-right false b e = e
+
+nodes-most : (n : ℕ) → nodesOut n ≡ false → n ≤ 64
+nodes-most n e = ltb-false 64 n (or-right (ltb n 1) (ltb 64 n) e)
+
+slots-most : (l : ℕ) → slotsOut l ≡ false → l ≤ 1024
+slots-most l e = ltb-false 1024 l (or-right (ltb l 1) (ltb 1024 l) e)
+
+taken : {b : Bool} (x y : Outcome) → b ≡ true → orElse b x y ≡ x
+taken x y e = rw e refl
+
+left : {b : Bool} (x : Outcome) {y z : Outcome} → b ≡ false → y ≡ z → orElse b x y ≡ z
+left x e h = rw e h
+
+-- ---- answers
+is-refused : (r : Answer) (x : Refusal) → verdictOf r ≡ verdict.Refused x → r ≡ Refused x
+is-refused (Planned k f c) x e = absurd (let z : _≡_ {A = ℕ} 0 1 = cc in omega arith)
+is-refused (Refused y) x e = cc
+
+is-planned : (r : Answer) → verdictOf r ≡ verdict.Accepted → r ≡ Planned (keptTotal r) (refusedTotal r) (changes r)
+is-planned (Planned k f c) e = refl
+is-planned (Refused y) e = absurd (let z : _≡_ {A = ℕ} 0 1 = cc in omega arith)
+
+-- ---- texts
+prints-bad : (o : Outcome) (text : List ℕ) → o ≡ BadInput → text ≡ badInput → Prints o text
+unfolding outcomeText
+prints-bad o text e t = record {
+  kept = [];
+  withdrawn = [];
+  schedule = [];
+  planned = λ n l rule d p. absurd (let z : _≡_ {A = ℕ} 0 1 = cc in omega arith);
+  printed = t ∙ ap (λ o. outcomeText o []) (sym e);
+}
+
+prints-refusal : (o : Outcome) (text : List ℕ) (x : Refusal) → o ≡ Refuses x → text ≡ refusalText (refusalNumber x) (refusalPlace x) → Prints o text
+unfolding outcomeText
+prints-refusal o text x e t = record {
+  kept = [];
+  withdrawn = [];
+  schedule = [];
+  planned = λ n l rule d p. absurd (let z : _≡_ {A = ℕ} 0 1 = cc in omega arith);
+  printed = t ∙ ap (λ o. outcomeText o []) (sym e);
+}
+
+same-plan : {n l rule m k s : ℕ} {d e : List ℕ} (kept withdrawn schedule : List ℕ) → Plans n l rule d ≡ Plans m k s e → Plan n l rule (wholeFrame n l) d kept withdrawn schedule → Plan m k s (wholeFrame m k) e kept withdrawn schedule
+same-plan {n} {l} {rule} {m} {k} {s} {d} {e} kept withdrawn schedule p plan =
+    let a : n ≡ m = cc in
+    let b : l ≡ k = cc in
+    let c : rule ≡ s = cc in
+    let f : d ≡ e = cc in
+    rw (← a, ← b, ← c, ← f) plan
+
+prints-plan : (o : Outcome) (text : List ℕ) (n l rule : ℕ) (d kept withdrawn schedule : List ℕ) → o ≡ Plans n l rule d → Plan n l rule (wholeFrame n l) d kept withdrawn schedule → text ≡ planText n l rule (total n kept) (total n d - total n kept) kept → Prints o text
+unfolding outcomeText
+prints-plan o text n l rule d kept withdrawn schedule e plan t = record {
+  kept = kept;
+  withdrawn = withdrawn;
+  schedule = schedule;
+  planned = λ m k s f p. same-plan kept withdrawn schedule (sym e ∙ p) plan;
+  printed = t ∙ ap (λ o. outcomeText o kept) (sym e);
+}
+
+-- ---- a right count of demands: the demand lent is the input's
+module _ (n l rule : ℕ) (d kept withdrawn schedule kept' withdrawn' schedule' : List ℕ) (r : Answer) (lk : length kept ≡ 4096) (lw : length withdrawn ≡ 4096) (ls : length schedule ≡ 65536) (p : PlanResult n l rule d kept withdrawn schedule kept' withdrawn' schedule' r) where
+  module _ (e1 : nodesOut n ≡ false) (e2 : slotsOut l ≡ false) (e3 : ruleOut rule ≡ false) (whole : eqb (length d) (n * n) ≡ true) where
+    -- no table is short
+    tables : (short (length kept) (n * n) || short (length withdrawn) (n * n) || short (length schedule) (l * n)) ≡ false
+    tables =
+        let cells = mul-small n n (nodes-most n e1) (nodes-most n e1) in
+        let bytes : l * n ≤ 1024 * 64 = mul-le-mul (slots-most l e2) (nodes-most n e1) in
+        neither (short (length kept) (n * n) || short (length withdrawn) (n * n)) (short (length schedule) (l * n))
+        (neither (short (length kept) (n * n)) (short (length withdrawn) (n * n)) (le-ltb (length kept) (n * n) (omega arith)) (le-ltb (length withdrawn) (n * n) (omega arith)))
+        (le-ltb (length schedule) (l * n) (omega arith))
+
+    decided : verdictOf r ≡ refuse (someCell (n * n) (firstAbove n d)) (DemandAbove (firstAbove n d)) verdict.Accepted
+    unfolding planVerdict
+    decided =
+        p .answer
+        ∙ sym (passes Nodes e1 (passes Slots e2 (passes Rule e3 (passes DemandShort (le-ltb (length d) (n * n) (omega (arith, eqb-true (length d) (n * n) whole))) (passes TableShort tables refl)))))
+
+    judged : (o : Outcome) → orElse (someCell (n * n) (firstAbove n d)) (Refuses (DemandAbove (firstAbove n d))) (Plans n l rule d) ≡ o → judge (n ∷ l ∷ rule ∷ d) ≡ o
+    unfolding judge
+    judged o h = left (Refuses Nodes) e1 (left (Refuses Slots) e2 (left (Refuses Rule) e3 (rw whole h)))
+
+    whole-refused : someCell (n * n) (firstAbove n d) ≡ true → Prints (judge (n ∷ l ∷ rule ∷ d)) (answerText true n l rule kept' r)
+    unfolding answerText refusedText
+    whole-refused e =
+        prints-refusal (judge (n ∷ l ∷ rule ∷ d)) (answerText true n l rule kept' r) (DemandAbove (firstAbove n d))
+        (judged (Refuses (DemandAbove (firstAbove n d))) (taken (Refuses (DemandAbove (firstAbove n d))) (Plans n l rule d) e))
+        (ap (answerText true n l rule kept') (is-refused r (DemandAbove (firstAbove n d)) (decided ∙ sym (fires verdict.Accepted e))))
+
+    whole-planned : someCell (n * n) (firstAbove n d) ≡ false → Prints (judge (n ∷ l ∷ rule ∷ d)) (answerText true n l rule kept' r)
+    unfolding answerText
+    whole-planned e =
+        let v : verdictOf r ≡ verdict.Accepted = decided ∙ sym (passes (DemandAbove (firstAbove n d)) e refl) in
+        let w = p .accepted v in
+        prints-plan (judge (n ∷ l ∷ rule ∷ d)) (answerText true n l rule kept' r) n l rule d kept' withdrawn' schedule'
+        (judged (Plans n l rule d) (left (Refuses (DemandAbove (firstAbove n d))) e refl))
+        (w .plan)
+        (ap (answerText true n l rule kept') (is-planned r v) ∙ rw (w .kept-total, w .refused-total) refl)
+
+    whole-prints : Prints (judge (n ∷ l ∷ rule ∷ d)) (answerText true n l rule kept' r)
+    whole-prints = by-test (someCell (n * n) (firstAbove n d)) whole-refused whole-planned
+
+-- ---- any count
+module _ (n l rule : ℕ) (lent kept withdrawn schedule kept' withdrawn' schedule' : List ℕ) (r : Answer) (lk : length kept ≡ 4096) (lw : length withdrawn ≡ 4096) (ls : length schedule ≡ 65536) (p : PlanResult n l rule lent kept withdrawn schedule kept' withdrawn' schedule' r) where
+  -- an accepted plan has a kept matrix
+  pub printable : length kept' ≡ 4096 → Printable n kept' r
+  unfolding planVerdict
+  printable lk' = record {
+    square = λ v.
+    by-test (nodesOut n)
+    (λ e. absurd (let f : verdict.Refused Nodes ≡ verdict.Accepted = fires _ e ∙ sym (p .answer) ∙ v in let z : _≡_ {A = ℕ} 0 1 = cc in omega arith))
+    (λ e. record { nodes = nodes-most n e; cells = omega (arith, mul-small n n (nodes-most n e) (nodes-most n e)) });
+  }
+
+  module _ (d : List ℕ) (same : n ≤ 64 → length d ≡ n * n → lent ≡ d) where
+    -- a refusal 1, 2 or 3
+    early : (x : Refusal) → refusedText (eqb (length d) (n * n)) x ≡ refusalText (refusalNumber x) (refusalPlace x) → verdictOf r ≡ verdict.Refused x → judge (n ∷ l ∷ rule ∷ d) ≡ Refuses x → Prints (judge (n ∷ l ∷ rule ∷ d)) (answerText (eqb (length d) (n * n)) n l rule kept' r)
+    unfolding answerText
+    early x given v o =
+        prints-refusal (judge (n ∷ l ∷ rule ∷ d)) (answerText (eqb (length d) (n * n)) n l rule kept' r) x o
+        (ap (answerText (eqb (length d) (n * n)) n l rule kept') (is-refused r x v) ∙ given)
+
+    -- after the count nothing but `bad input` is printed where it is wrong
+    late : (b4 b5 b6 : Bool) (c : ℕ) → verdictOf r ≡ refuse b4 DemandShort (refuse b5 TableShort (refuse b6 (DemandAbove c) verdict.Accepted)) → answerText false n l rule kept' r ≡ badInput
+    unfolding answerText refusedText refuse
+    late true b5 b6 c v = ap (answerText false n l rule kept') (is-refused r DemandShort v)
+    late false true b6 c v = ap (answerText false n l rule kept') (is-refused r TableShort v)
+    late false false true c v = ap (answerText false n l rule kept') (is-refused r (DemandAbove c) v)
+    late false false false c v = ap (answerText false n l rule kept') (is-planned r v)
+
+    numbers-print : Prints (judge (n ∷ l ∷ rule ∷ d)) (answerText (eqb (length d) (n * n)) n l rule kept' r)
+    unfolding planVerdict judge refusedText
+    numbers-print =
+        by-test (nodesOut n)
+        (λ e1. early Nodes refl (p .answer ∙ sym (fires _ e1)) (taken _ _ e1))
+        (λ e1. by-test (slotsOut l)
+        (λ e2. early Slots refl (p .answer ∙ sym (passes Nodes e1 (fires _ e2))) (left _ e1 (taken _ _ e2)))
+        (λ e2. by-test (ruleOut rule)
+        (λ e3. early Rule refl (p .answer ∙ sym (passes Nodes e1 (passes Slots e2 (fires _ e3)))) (left _ e1 (left _ e2 (taken _ _ e3))))
+        (λ e3. by-test (eqb (length d) (n * n))
+        (λ whole. subst (λ t. Prints (judge (n ∷ l ∷ rule ∷ d)) (answerText t n l rule kept' r)) (sym whole) (whole-prints n l rule d kept withdrawn schedule kept' withdrawn' schedule' r lk lw ls (subst (λ s. PlanResult n l rule s kept withdrawn schedule kept' withdrawn' schedule' r) (same (nodes-most n e1) (eqb-true (length d) (n * n) whole)) p) e1 e2 e3 whole))
+        (λ wrong. prints-bad _ _ (left _ e1 (left _ e2 (left _ e3 (rw wrong refl)))) (ap (λ t. answerText t n l rule kept' r) wrong ∙ late _ _ _ _ (p .answer ∙ sym (passes Nodes e1 (passes Slots e2 (passes Rule e3 refl)))))))))
