@@ -1,6 +1,6 @@
 -- Inputs and what is printed for them, to the byte: document 01's example and the edges of its order, each by computation. Assumes nothing.
 use mathlib.Core.Path.{_≡_, refl}
-use mathlib.Core.List.{List, [], _∷_}
+use mathlib.Core.List.{[], _∷_}
 use Rattle.sums.specs.Sums.{sumTo}
 use Rattle.sums.specs.Searches.{firstBelow, firstFrom}
 use Rattle.sums.specs.Tables.{cell}

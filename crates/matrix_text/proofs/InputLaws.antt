@@ -1,16 +1,16 @@
 -- The list read word by word: what each byte does to the word at hand, and what is read when the input has come to its end. A word that is no
 -- number stays one however it goes on, so the first bad byte decides. The laws assume nothing.
-use Prim.Native.Nat.{ℕ, zero, suc, _+_, _-_, _*_, _^_, _≤_, _<_}
+use Prim.Native.Nat.{ℕ, _+_, _-_, _*_, _^_, _≤_, _<_}
 use native.Mathlib.Omega.{arith}
 use native.Mathlib.Nat.{mul-le-mul-right, pow-le-pow-right, pow-suc}
 use native.Mathlib.Numerals.{add-one}
 use mathlib.Core.Path.{_≡_, refl, sym, _∙_, ap}
-use mathlib.Core.Bool.{Bool, true, false, _&&_, _||_, false≢true}
+use mathlib.Core.Bool.{Bool, true, false, _&&_, false≢true}
 use mathlib.Core.List.{List, [], _∷_, _++_, append-assoc, append-nil}
 use mathlib.Core.Option.{Option, none, some}
-use lib.Dec.{eqb, leb}
-use lib.ListN.{length, getD, take, drop, set, length-append, length-set, length-take, drop-of-length-le}
-use lib.Seq.{drop-cons, take-nil, take-all, take-append-le, take-suc-set, length-take-le}
+use lib.Dec.{leb}
+use lib.ListN.{length, getD, drop, set, length-append, length-set, drop-of-length-le}
+use lib.Seq.{drop-cons, take-nil, take-all, take-append-le, take-suc-set}
 use borrow.Author.Tests.{leb-true, leb-false, le-leb, lt-leb, ne-eqb}
 use Rattle.matrix_text.specs.Input.{parts, isDigit, allDigits, isNumber, valueFrom, wordsFrom, after, numbersOf, listOf}
 use Rattle.matrix_text.specs.Writes.{Stored, Ended, Holds}
@@ -250,9 +250,9 @@ module _ (input : List ℕ) (i digits value count : ℕ) (table : List ℕ) (r :
     done-number p = record {
       numbers = r .done ++ (value ∷ []);
       ends = λ words.
-      ap (after (r .done)) (a-number (r .word) words (omega (arith, r .size)) (is-number (r .word) (omega (arith, r .size, r .few)) (r .all)))
-      ∙ after-one (r .done) (valueFrom 0 (r .word)) (numbersOf words)
-      ∙ ap (λ v. after (r .done ++ (v ∷ [])) (numbersOf words)) (sym (r .makes));
+          ap (after (r .done)) (a-number (r .word) words (omega (arith, r .size)) (is-number (r .word) (omega (arith, r .size, r .few)) (r .all)))
+          ∙ after-one (r .done) (valueFrom 0 (r .word)) (numbersOf words)
+          ∙ ap (λ v. after (r .done ++ (v ∷ [])) (numbersOf words)) (sym (r .makes));
       kept = w .number p (r .done) (r .stored);
       more = omega (arith, r .stored .counted, w .number p (r .done) (r .stored) .counted, length-more (r .done) value);
     }

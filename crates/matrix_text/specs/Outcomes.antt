@@ -37,7 +37,7 @@ judge (n ∷ l ∷ rule ∷ d) =
     (orElse (slotsOut l) (Refuses Slots)
     (orElse (ruleOut rule) (Refuses Rule)
     (elim (eqb (length d) (n * n)) [
-      false ↦ BadInput
+      | false ↦ BadInput
       | true ↦ orElse (someCell (n * n) (firstAbove n d)) (Refuses (DemandAbove (firstAbove n d))) (Plans n l rule d)
     ])))
 

@@ -1,6 +1,6 @@
 -- What is printed, as bytes. Every number is printed without leading zeros and every line ends with a line feed.
 use Prim.Native.Nat.{ℕ, zero, suc, _+_, _/_, _%_}
-use mathlib.Core.Bool.{Bool, true, false, cond}
+use mathlib.Core.Bool.{true, false, cond}
 use mathlib.Core.List.{List, [], _∷_, _++_}
 use lib.Dec.{ltb, eqb}
 use Rattle.sums.specs.Tables.{cell}

@@ -2,7 +2,6 @@
 ghost use mathlib.Core.Path.{_≡_};
 ghost use mathlib.Core.Bool.{true};
 ghost use Prim.Native.Nat.{_-_, _≤_, _<_};
-ghost use lib.ListN.{length};
 ghost use Rattle.matrix_text.specs.Input.{isDigit, parts};
 ghost use Rattle.matrix_text.specs.Writes.{Ended, Reads};
 

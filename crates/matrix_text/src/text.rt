@@ -1,4 +1,5 @@
-// The printed text, piece by piece. Each function writes from `at` on and gives the place after what it wrote; each asks that its text fits.
+// The printed text, piece by piece. Each function writes from `at` on, or from the front, and gives the place after what it wrote; each asks that
+// its text fits.
 use star::tables::get;
 ghost use mathlib.Core.Path.{_≡_};
 ghost use mathlib.Core.List.{[], _∷_};
@@ -40,6 +41,7 @@ fn put_number(out: &mut [u8], at: usize, n: u32) -> usize
     put_byte(out, next, 48 + (n % 10) as u8)
 }
 
+// A word and a number.
 fn put_named(out: &mut [u8], at: usize, word: &[u8], n: u32) -> usize
     requires { ⌜ at + length (named (now word) n) ≤ length (now out) ⌝ }
     ensures { λ r. ⌜ Appended (now (out .entry)) (now (out .exit)) at r (named (now (word .entry)) n) ⌝ }
@@ -48,6 +50,7 @@ fn put_named(out: &mut [u8], at: usize, word: &[u8], n: u32) -> usize
     put_number(out, next, n)
 }
 
+// The byte after the number of destination j.
 fn mark_after(n: usize, j: usize) -> u8
     requires { ⌜ j < n ⌝ }
     ensures { λ r. ⌜ r ≡ markAfter n j ⌝ }
@@ -55,6 +58,7 @@ fn mark_after(n: usize, j: usize) -> u8
     if j + 1 == n { 10 } else { 32 }
 }
 
+// The number of destination j, and the byte after it.
 fn put_cell(out: &mut [u8], at: usize, n: usize, kept: &[u32], i: usize, j: usize) -> usize
     requires { ⌜ (Square n (now kept)) × (i < n) × (j < n) ⌝ }
     requires { ⌜ at + length (cellText n (now kept) i j) ≤ length (now out) ⌝ }
@@ -64,6 +68,7 @@ fn put_cell(out: &mut [u8], at: usize, n: usize, kept: &[u32], i: usize, j: usiz
     put_byte(out, next, mark_after(n, j))
 }
 
+// The line of source i.
 fn put_row(out: &mut [u8], at: usize, n: usize, kept: &[u32], i: usize) -> usize
     requires { ⌜ (Square n (now kept)) × (i < n) ⌝ }
     requires { ⌜ at + length (rowText n (now kept) i) ≤ length (now out) ⌝ }
@@ -78,6 +83,7 @@ fn put_row(out: &mut [u8], at: usize, n: usize, kept: &[u32], i: usize) -> usize
     next
 }
 
+// A line for each source.
 fn put_rows(out: &mut [u8], at: usize, n: usize, kept: &[u32]) -> usize
     requires { ⌜ Square n (now kept) ⌝ }
     requires { ⌜ at + length (rowsText n (now kept)) ≤ length (now out) ⌝ }
@@ -92,6 +98,7 @@ fn put_rows(out: &mut [u8], at: usize, n: usize, kept: &[u32]) -> usize
     next
 }
 
+// Line 1.
 fn put_head(out: &mut [u8], at: usize, nodes: u32, slots: u32, rule: u32) -> usize
     requires { ⌜ at + length (headText nodes slots rule) ≤ length (now out) ⌝ }
     ensures { λ r. ⌜ Appended (now (out .entry)) (now (out .exit)) at r (headText nodes slots rule) ⌝ }
@@ -102,6 +109,7 @@ fn put_head(out: &mut [u8], at: usize, nodes: u32, slots: u32, rule: u32) -> usi
     put_byte(out, after_rule, 10)
 }
 
+// Line 2.
 fn put_totals(out: &mut [u8], at: usize, kept: u32, refused: u32) -> usize
     requires { ⌜ at + length (totalsText kept refused) ≤ length (now out) ⌝ }
     ensures { λ r. ⌜ Appended (now (out .entry)) (now (out .exit)) at r (totalsText kept refused) ⌝ }
@@ -111,6 +119,7 @@ fn put_totals(out: &mut [u8], at: usize, kept: u32, refused: u32) -> usize
     put_byte(out, after_refused, 10)
 }
 
+// `bad input`, and a line feed.
 pub fn put_bad_input(out: &mut [u8]) -> usize
     requires { ⌜ room ≤ length (now out) ⌝ }
     ensures { λ r. ⌜ Appended (now (out .entry)) (now (out .exit)) 0 r badInput ⌝ }
@@ -118,6 +127,7 @@ pub fn put_bad_input(out: &mut [u8]) -> usize
     put_bytes(out, 0, b"bad input\n")
 }
 
+// A refusal: one line with its number and its place.
 pub fn put_refusal(out: &mut [u8], number: u32, place: u32) -> usize
     requires { ⌜ room ≤ length (now out) ⌝ }
     ensures { λ r. ⌜ Appended (now (out .entry)) (now (out .exit)) 0 r (refusalText number place) ⌝ }
@@ -127,7 +137,16 @@ pub fn put_refusal(out: &mut [u8], number: u32, place: u32) -> usize
     put_byte(out, after_place, 10)
 }
 
-pub fn put_plan(out: &mut [u8], nodes: u32, slots: u32, rule: u32, keeps: u32, refuses: u32, kept: &[u32]) -> usize
+// A plan without its schedule: line 1, line 2, and a line for each source.
+pub fn put_plan(
+    out: &mut [u8],
+    nodes: u32,
+    slots: u32,
+    rule: u32,
+    keeps: u32,
+    refuses: u32,
+    kept: &[u32],
+) -> usize
     requires { ⌜ Square nodes (now kept) ⌝ }
     requires { ⌜ room ≤ length (now out) ⌝ }
     ensures { λ r. ⌜ Appended (now (out .entry)) (now (out .exit)) 0 r (planText nodes slots rule keeps refuses (now (kept .entry))) ⌝ }

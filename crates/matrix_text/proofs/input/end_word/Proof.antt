@@ -1,3 +1,4 @@
+-- `end_word` counts a word that has digits, and stores its number where the table has a cell for it: by the cases of its two tests. Assumes nothing.
 use lib.ListN.{length-set}
 use native.Mathlib.Omega.{arith}
 use mathlib.Core.Path.{refl}
@@ -6,39 +7,31 @@ use Rattle.matrix_text.proofs.InputLaws.{stored-here, stored-past}
 use borrow.Author.Needs.{needs}
 use Rattle.matrix_text.proofs.input.end_word.Statement.{statement}
 use Rattle.matrix_text.proofs.input.end_word.Tie as tie
-use Rattle.matrix_text.proofs.input.end_word.Reads as reads
-use Rattle.matrix_text.proofs.input.end_word.Lts as lts
 
--- src/input.rt:47:9
 returns : tie.Need-returns
 returns c = record { empty = λ e. (refl, refl); number = λ p numbers s. absurd (omega arith) }
 
--- src/input.rt:50:9
 mul-table : tie.Need-mul-table
 mul-table c = search needs
 
--- src/input.rt:50:9
 slice-write-table : tie.Need-slice-write-table
 slice-write-table c = search needs
 
--- src/input.rt:52:5
 add-result : tie.Need-add-result
 add-result c = search needs
 
--- src/input.rt:42:1
 same-length : tie.Need-same-length
 same-length c = ⊎-elim (λ w. rw (w .1) (length-set (c .before .before .args .table .now) (c .before .before .args .count) (c .before .before .args .value))) (λ w. rw (w .1) refl) (c .if2 .came)
 
--- src/input.rt:42:1
 returns-2 : tie.Need-returns-2
 returns-2 c = record {
-      empty = λ e. absurd (omega arith);
-      number = λ p numbers s.
+  empty = λ e. absurd (omega arith);
+  number = λ p numbers s.
       ⊎-elim
       (λ w. rw (w .1) (stored-here _ numbers _ _ (w .0 .taken) s))
       (λ w. rw (w .1) (stored-past _ numbers _ _ (w .0 .left) s))
       (c .if2 .came);
-    }
+}
 
 pub end-word-spec : {M : Type 1} → statement M
 end-word-spec =

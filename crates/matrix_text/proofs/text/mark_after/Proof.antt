@@ -1,20 +1,16 @@
+-- `mark_after` gives the byte after a number: by its test. Assumes nothing.
 use Prim.Native.Nat.{_+_}
 use borrow.Author.Tests.{eq-eqb, ne-eqb}
 use borrow.Author.Needs.{needs}
 use Rattle.matrix_text.proofs.text.mark_after.Statement.{statement}
 use Rattle.matrix_text.proofs.text.mark_after.Tie as tie
-use Rattle.matrix_text.proofs.text.mark_after.Reads as reads
-use Rattle.matrix_text.proofs.text.mark_after.Lts as lts
 
--- src/text.rt:55:8
 add-if1 : tie.Need-add-if1
 add-if1 c = search needs
 
--- src/text.rt:51:1
 returns : tie.Need-returns
 returns c = simp (eq-eqb (c .before .args .j + 1) (c .before .args .n) (c .if1 .taken))
 
--- src/text.rt:51:1
 returns-2 : tie.Need-returns-2
 returns-2 c = simp (ne-eqb (c .before .args .j + 1) (c .before .args .n) (c .if1 .left))
 

@@ -1,31 +1,23 @@
+-- `put_named` appends a word and a number: two pieces are one. Assumes nothing.
 use mathlib.Core.Path.{_∙_}
 use native.Mathlib.Omega.{arith}
 use lib.ListN.{length-append}
 use Rattle.matrix_text.proofs.TextLaws.{appended-more}
-use Rattle.matrix_text.specs.Text.{named, decimal}
-use borrow.Author.Needs.{needs}
+use Rattle.matrix_text.specs.Text.{named}
 use Rattle.matrix_text.proofs.text.put_named.Statement.{statement}
 use Rattle.matrix_text.proofs.text.put_named.Tie as tie
-use Rattle.matrix_text.proofs.text.put_named.Reads as reads
-use Rattle.matrix_text.proofs.text.put_named.Lts as lts
-use Rattle.matrix_text.proofs.text.put_bytes.Reads as put-bytes-reads
-use Rattle.matrix_text.proofs.text.put_number.Reads as put-number-reads
 
--- src/text.rt:47:9
 put-bytes-requires : tie.Need-put-bytes-requires
 unfolding named
 put-bytes-requires c κs = omega (arith, simp length-append at (c .before .before .before .pre))
 
--- src/text.rt:48:5
 put-number-requires : tie.Need-put-number-requires
 unfolding named
 put-number-requires c κs = omega (arith, simp length-append at (c .before .before .before .before .before .before .before .pre), c .before .before .before .put-bytes .ensures .end, c .before .before .before .put-bytes .kept .0)
 
--- src/text.rt:43:1
 same-length : tie.Need-same-length
 same-length c = c .before .before .put-number .kept .0 ∙ c .before .before .before .before .before .before .put-bytes .kept .0
 
--- src/text.rt:43:1
 returns : tie.Need-returns
 unfolding named
 returns c = appended-more (omega (arith, simp length-append at (c .before .before .before .before .before .before .before .before .before .before .pre))) (c .before .before .before .before .before .before .put-bytes .ensures) (c .before .before .put-number .ensures)
