@@ -1,1 +1,6 @@
-// The fair rule: the line-by-line cut of overloaded lines.
+// The fair rule: of the lines above their capacity the one with the smallest fraction (L−b)/a is cut, again and again, until none is left.
+mod choice;
+mod line;
+mod rule;
+
+pub use rule::cut;

@@ -1,7 +1,7 @@
 -- A certificate that computes, for worked examples: whether a matrix is feasible is tested cell by cell and line by line, and a feasible
 -- matrix whose total is the cut of some marks is the largest. An example gives `refl` twice to `meets-cut`, under
 -- `unfolding feasible? below? lines? all sumTo total cut lineSum onLine sourceOn destinationOn cell`. Assumes nothing.
-use Prim.Native.Nat.{ℕ, zero, suc, _+_, _*_, _≤_, _<_}
+use Prim.Native.Nat.{ℕ, zero, suc, _*_, _<_}
 use native.Mathlib.Omega.{arith}
 use mathlib.Core.Path.{_≡_, refl, _∙_, ap}
 use mathlib.Core.Bool.{Bool, true, false, _&&_}

@@ -1,6 +1,6 @@
 -- No feasible matrix exceeds a cut, and closed marks give a cut of the matrix's own total: a total falls into the rows without a mark, the
 -- cells where marked lines meet and the cells where a marked row meets a column without a mark, and each part has its bound. Assumes nothing.
-use Prim.Native.Nat.{ℕ, _+_, _≤_, _<_}
+use Prim.Native.Nat.{ℕ, _+_, _≤_}
 use native.Mathlib.Nat.{add-le-add, le-trans}
 use native.Mathlib.Omega.{arith}
 use mathlib.Core.Path.{_≡_, sym, _∙_, ap, ap₂}
@@ -11,7 +11,7 @@ use Rattle.sums.specs.Sums.{sumTo, gate}
 use Rattle.sums.specs.Tables.{cell}
 use Rattle.sums.proofs.Sums.{sum-ext, sum-mono, sum-add, sum-swap}
 use Rattle.sums.proofs.Gates.{sum-gate, gate-split, gate-mono, gate-le, gate-cong, gate-drop, gate-zero}
-use Rattle.star.specs.Lines.{lineSum, total}
+use Rattle.star.specs.Lines.{total}
 use Rattle.star.proofs.LineLaws.{row-sum, column-sum}
 use Rattle.flow.specs.Flows.{Feasible, Largest, Closed, marked, cut}
 

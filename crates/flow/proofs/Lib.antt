@@ -1,3 +1,7 @@
--- The laws of matrices below bounds and limits.
+-- The laws of matrices below bounds and limits, and of how a matrix grows.
 pub mod Duality
 pub mod Check
+pub mod Stores
+pub mod Takes
+pub mod Moves
+pub mod Ends

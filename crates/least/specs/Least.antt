@@ -40,19 +40,18 @@ remainder n cap e ℓ t = onLine n e ℓ t * getD cap ℓ 0 % lineSum n e ℓ
 unfoldable pub missing : (n : ℕ) (cap e : List ℕ) (ℓ : ℕ) → ℕ
 missing n cap e ℓ = getD cap ℓ 0 - sumTo n (λ t. share n cap e ℓ t)
 
--- They go one each to the cells with the largest remainder; equal remainders, the lowest index in the line first: cell u of the line comes before cell t.
-unfoldable pub before : (n : ℕ) (cap e : List ℕ) (ℓ u t : ℕ) → Bool
-before n cap e ℓ u t =
-    ltb (remainder n cap e ℓ t) (remainder n cap e ℓ u)
-    || (eqb (remainder n cap e ℓ u) (remainder n cap e ℓ t) && ltb u t)
+-- They go one each to the cells with the largest remainder; equal remainders, the lowest index in the line first. With r the remainder of
+-- each cell of a line: cell u comes before cell t.
+unfoldable pub before : (r : ℕ → ℕ) (u t : ℕ) → Bool
+before r u t = ltb (r t) (r u) || (eqb (r u) (r t) && ltb u t)
 
 -- how many cells of the line come before cell t
-unfoldable pub rank : (n : ℕ) (cap e : List ℕ) (ℓ t : ℕ) → ℕ
-rank n cap e ℓ t = sumTo n (λ u. bit (before n cap e ℓ u t))
+unfoldable pub rank : (n : ℕ) (r : ℕ → ℕ) (t : ℕ) → ℕ
+rank n r t = sumTo n (λ u. bit (before r u t))
 
 -- what the t-th cell of a line that exceeds L keeps
 unfoldable pub shared : (n : ℕ) (cap e : List ℕ) (ℓ t : ℕ) → ℕ
-shared n cap e ℓ t = share n cap e ℓ t + bit (ltb (rank n cap e ℓ t) (missing n cap e ℓ))
+shared n cap e ℓ t = share n cap e ℓ t + bit (ltb (rank n (remainder n cap e ℓ) t) (missing n cap e ℓ))
 
 -- Other cells keep E. Two lines still overflowing in E meet only in a zero cell, so the order of lines is immaterial: here the row is looked at first.
 unfoldable pub keptCell : (n : ℕ) (cap e : List ℕ) (i j : ℕ) → ℕ

@@ -1,2 +1,3 @@
 -- The least rule.
 pub mod Least
+pub mod Promises

@@ -4,3 +4,4 @@ pub mod Sums
 pub mod Gates
 pub mod Searches
 pub mod Tables
+pub mod Fills

@@ -1,3 +1,5 @@
 -- The proof of the fourteen lines.
-pub mod Fairs
+pub mod Marks
 pub mod Nothing
+pub mod OneNode
+pub mod Lines

@@ -1,0 +1,76 @@
+-- A withdrawn matrix is one that stays below D at each cell and below the excess on each line: a line that does not overflow has excess 0, so
+-- there every cell is 0 by itself. Hence the greatest withdrawn matrices are the largest of these. Assumes nothing.
+use Prim.Native.Nat.{ℕ, _+_, _*_, _≤_, _<_}
+use native.Mathlib.Omega.{arith}
+use mathlib.Core.Path.{_≡_, refl, sym, _∙_, ap}
+use mathlib.Core.Bool.{Bool, true, false, _&&_}
+use mathlib.Core.List.{List}
+use lib.ListN.{length, getD, take}
+use borrow.Author.Tests.{ltb-false}
+use Rattle.sums.specs.Tables.{cell, tab, written}
+use Rattle.sums.proofs.Tables.{length-tab, tab-at, written-first}
+use Rattle.star.specs.Lines.{lineSum, overflows, excess, critical}
+use Rattle.star.proofs.LineLaws.{excess-is, overflows-is}
+use Rattle.flow.specs.Flows.{Feasible, Largest}
+use Rattle.flow.proofs.Duality.{closed-is-largest}
+use Rattle.flow.specs.Certified.{Certified}
+use Rattle.least.specs.Least.{Withdrawn, Greatest}
+use Rattle.least.specs.Promises.{Withdrew}
+use Rattle.least.proofs.Lines.{cell-in-row, cell-in-column}
+
+module _ (n : ℕ) (cap d : List ℕ) where
+  -- the limits: each line's excess
+  pub limit-at : (ℓ : ℕ) → ℓ < 2 * n → getD (tab (2 * n) (excess n cap d)) ℓ 0 ≡ excess n cap d ℓ
+  limit-at ℓ h = tab-at (excess n cap d) (2 * n) ℓ 0 h
+
+  pub no-overflow-no-excess : (ℓ : ℕ) → overflows n cap d ℓ ≡ false → excess n cap d ℓ ≡ 0
+  no-overflow-no-excess ℓ e = omega (arith, excess-is n cap d ℓ, ltb-false (getD cap ℓ 0) (lineSum n d ℓ) (sym (overflows-is n cap d ℓ) ∙ e))
+
+  off-critical : (i j : ℕ) → critical n cap d i j ≡ false → (x : ℕ) → x ≤ excess n cap d i → x ≤ excess n cap d (n + j) → x ≡ 0
+  unfolding critical
+  off-critical i j off x row column = go (overflows n cap d i) refl off
+    where
+      go : (b : Bool) → overflows n cap d i ≡ b → (b && overflows n cap d (n + j)) ≡ false → x ≡ 0
+      go true e f = omega (arith, no-overflow-no-excess (n + j) f)
+      go false e f = omega (arith, no-overflow-no-excess i e)
+
+  module _ {a : List ℕ} where
+    pub withdrawn-is-feasible : Withdrawn n cap d a → Feasible n d (tab (2 * n) (excess n cap d)) a
+    withdrawn-is-feasible w = record { below = w .below; lines = λ ℓ h. rw (limit-at ℓ h) (w .lines ℓ h) }
+
+    pub feasible-is-withdrawn : Feasible n d (tab (2 * n) (excess n cap d)) a → Withdrawn n cap d a
+    feasible-is-withdrawn f = record {
+      off = λ i j p q e.
+          off-critical i j e (cell n a i j)
+          (omega (arith, cell-in-row n a i j p q, rw (limit-at i (omega arith)) at (f .lines i (omega arith))))
+          (omega (arith, cell-in-column n a i j p, rw (limit-at (n + j) (omega arith)) at (f .lines (n + j) (omega arith))));
+      below = f .below;
+      lines = λ ℓ h. rw (limit-at ℓ h) at (f .lines ℓ h);
+    }
+
+  module _ {a : List ℕ} where
+    pub greatest-is-largest : Greatest n cap d a → Largest n d (tab (2 * n) (excess n cap d)) a
+    greatest-is-largest g = record { feasible = withdrawn-is-feasible (g .withdrawn); most = λ b f. g .most b (feasible-is-withdrawn f) }
+
+    pub largest-is-greatest : Largest n d (tab (2 * n) (excess n cap d)) a → Greatest n cap d a
+    largest-is-greatest g = record { withdrawn = feasible-is-withdrawn (g .feasible); most = λ b w. g .most b (withdrawn-is-feasible w) }
+
+-- ---- the limits as a table begins with them
+module _ (n : ℕ) (cap d limits o : List ℕ) (e : limits ≡ written (2 * n) (tab (2 * n) (excess n cap d)) o) where
+  limits-first : take (2 * n) limits ≡ tab (2 * n) (excess n cap d)
+  limits-first = ap (take (2 * n)) e ∙ written-first (2 * n) (tab (2 * n) (excess n cap d)) o (length-tab (excess n cap d) (2 * n))
+
+  pub limits-fit : 2 * n ≡ length (take (2 * n) limits)
+  limits-fit = sym (ap length limits-first ∙ length-tab (excess n cap d) (2 * n))
+
+  -- the largest matrix below D and the excesses
+  pub certified-is-withdrawn : {a marks a' marks' : List ℕ} → Certified n d (take (2 * n) limits) a marks a' marks' → Withdrew n cap d a marks a' marks'
+  certified-is-withdrawn {a' = a'} {marks' = marks'} c =
+      let feasible = rw limits-first at (c .feasible) in
+      let closed = rw limits-first at (c .closed) in
+      record {
+        greatest = largest-is-greatest n cap d (closed-is-largest n d (tab (2 * n) (excess n cap d)) a' marks' feasible closed);
+        closed = closed;
+        rest = c .rest;
+        rest-marks = c .rest-marks;
+      }

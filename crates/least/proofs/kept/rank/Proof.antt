@@ -1,0 +1,73 @@
+-- `rank` meets its contract. The loop's invariant: the cells passed with a larger claim are counted. Assumes nothing.
+use Prim.Native.Nat.{_≤_, _-_}
+use native.Mathlib.Omega.{arith}
+use mathlib.Core.Path.{_≡_, sym}
+use lib.Dec.{ltb}
+use lib.ListN.{getD}
+use borrow.Author.Needs.{needs}
+use Rattle.sums.proofs.Sums.{sum-none, sum-more, sum-done}
+use Rattle.sums.specs.Sums.{sumTo, bit}
+use Rattle.least.specs.Promises.{larger}
+use Rattle.least.proofs.kept.rank.Statement.{statement}
+use Rattle.least.proofs.kept.rank.Tie as tie
+
+abbrev Inv-loop : tie.InvT-loop
+Inv-loop n claims t count₀ u₀ count u = (u ≤ n) × (count ≡ sumTo u (λ w. bit (ltb (getD claims t 0) (getD claims w 0)))) × (count ≤ u)
+
+abbrev μ-loop : tie.MeasureT-loop
+μ-loop n claims t count₀ u₀ count u = n - u
+
+loop-holds : tie.Need-loop-holds Inv-loop μ-loop
+loop-holds c = (omega arith, sym (sum-none _), omega arith)
+
+mul-exceeds : tie.Need-mul-exceeds Inv-loop μ-loop
+mul-exceeds c = omega arith
+
+shared-slice-read-exceeds : tie.Need-shared-slice-read-exceeds Inv-loop μ-loop
+shared-slice-read-exceeds c = omega arith
+
+mul-exceeds-2 : tie.Need-mul-exceeds-2 Inv-loop μ-loop
+mul-exceeds-2 c = omega arith
+
+shared-slice-read-exceeds-2 : tie.Need-shared-slice-read-exceeds-2 Inv-loop μ-loop
+shared-slice-read-exceeds-2 c = omega arith
+
+exceeds-requires : tie.Need-exceeds-requires Inv-loop μ-loop
+exceeds-requires c κs = search needs
+
+add-count : tie.Need-add-count Inv-loop μ-loop
+add-count c = omega arith
+
+add-u : tie.Need-add-u Inv-loop μ-loop
+add-u c = omega arith
+
+loop-less : tie.Need-loop-less Inv-loop μ-loop
+loop-less c = omega arith
+
+loop-again : tie.Need-loop-again Inv-loop μ-loop
+loop-again c = let args = c .before .before .before .before .before .before .args in
+    let loop = c .before .before .before .before .loop in
+    (omega arith, omega (arith, c .exceeds .ensures .0, loop .inv .1, sum-more (loop .u) (λ w. bit (ltb (getD (args .claims .now) (args .t) 0) (getD (args .claims .now) w 0)))), omega arith)
+
+returns : tie.Need-returns Inv-loop μ-loop
+unfolding larger
+returns c = let loop = c .before .loop in
+    let done : loop .u ≡ c .before .before .before .args .n = omega arith in sum-done _ done (loop .inv .1)
+
+pub rank-spec : {M : Type 1} → statement M
+rank-spec =
+    tie.close
+    (tie.spec
+    Inv-loop
+    μ-loop
+    loop-holds
+    mul-exceeds
+    shared-slice-read-exceeds
+    mul-exceeds-2
+    shared-slice-read-exceeds-2
+    exceeds-requires
+    add-count
+    add-u
+    loop-less
+    loop-again
+    returns)

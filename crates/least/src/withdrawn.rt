@@ -1,0 +1,37 @@
+// The withdrawn matrix A: of those that take no more than the demand from a pair and no more than the excess from a line, one with the greatest total.
+use flow::largest;
+use star::lines::excess;
+use star::lines::line_sum;
+use star::lines::slack;
+ghost use mathlib.Core.Path.{_≡_};
+ghost use Prim.Native.Nat.{_*_, _≤_};
+ghost use lib.ListN.{length};
+ghost use Rattle.sums.specs.Tables.{tab, written};
+ghost use Rattle.star.specs.Tables.{Square, Demands, Capacities};
+ghost use Rattle.star.specs.Lines.{excess};
+ghost use Rattle.least.specs.Promises.{CanWithdraw, Withdrew};
+
+// Writes the excess of each line.
+fn excesses(n: usize, cap: &[u32], demand: &[u32], table: &mut [u32])
+    requires { ⌜ (Square n (now demand)) × (Demands n (now demand)) ⌝ }
+    requires { ⌜ (Capacities n (now cap)) × (2 * n ≤ length (now table)) ⌝ }
+    ensures { λ _. ⌜ now (table .exit) ≡ written (2 * n) (tab (2 * n) (excess n (now (cap .entry)) (now (demand .entry)))) (now (table .entry)) ⌝ }
+{
+    let lines = 2 * n;
+    let mut line = 0;
+    while line < lines {
+        table[line] = excess(slack(cap[line], line_sum(n, demand, line)));
+        line += 1;
+    }
+}
+
+// A greatest withdrawn matrix, and marks that prove it so; cells beyond the first n * n, and marks beyond the first 2N, are left as they are.
+pub fn withdraw(n: usize, cap: &[u32], demand: &[u32], withdrawn: &mut [u32], marks: &mut [u8])
+    requires { ⌜ CanWithdraw n (now cap) (now demand) (now withdrawn) (now marks) ⌝ }
+    ensures { λ _. ⌜ Withdrew n (now (cap .entry)) (now (demand .entry)) (now (withdrawn .entry)) (now (marks .entry)) (now (withdrawn .exit)) (now (marks .exit)) ⌝ }
+{
+    let lines = 2 * n;
+    let mut limits = [0u32; 128];
+    excesses(n, cap, demand, &mut limits);
+    largest(n, demand, &limits[..lines], withdrawn, marks);
+}

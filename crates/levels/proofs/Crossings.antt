@@ -1,0 +1,58 @@
+-- Lines that cross: where, and what can move there; each law by the two cases of a line. Assumes nothing.
+use Prim.Native.Nat.{ℕ, _+_, _-_, _*_, _≤_, _<_}
+use native.Mathlib.Omega.{arith}
+use mathlib.Core.Path.{_≡_, _∙_}
+use mathlib.Core.List.{List}
+use borrow.Author.Tests.{lt-ltb, le-ltb}
+use Rattle.sums.specs.Tables.{cell}
+use Rattle.sums.proofs.Cases.{by-lt}
+use Rattle.star.specs.Lines.{crossing}
+use Rattle.star.proofs.LineLaws.{on-row, on-column}
+use Rattle.levels.specs.Levels.{movable, seat}
+
+-- ---- a row
+module _ (n ℓ : ℕ) (h : ℓ < n) where
+  pub cross-row : (t : ℕ) → crossing n ℓ t ≡ n + t
+  unfolding crossing
+  cross-row t = simp (lt-ltb ℓ n h)
+
+  pub seat-row : seat n ℓ ≡ ℓ
+  unfolding seat
+  seat-row = simp (lt-ltb ℓ n h)
+
+  pub movable-row : (bound a : List ℕ) (t : ℕ) → movable n bound a ℓ t ≡ cell n a ℓ t
+  unfolding movable
+  movable-row bound a t = rw (lt-ltb ℓ n h) (on-row n a ℓ t h)
+
+-- ---- a column
+module _ (n ℓ : ℕ) (h : n ≤ ℓ) where
+  pub cross-column : (t : ℕ) → crossing n ℓ t ≡ t
+  unfolding crossing
+  cross-column t = simp (le-ltb ℓ n h)
+
+  pub seat-column : seat n ℓ ≡ ℓ - n
+  unfolding seat
+  seat-column = simp (le-ltb ℓ n h)
+
+  pub movable-column : (bound a : List ℕ) (t : ℕ) → movable n bound a ℓ t ≡ cell n bound t (ℓ - n) - cell n a t (ℓ - n)
+  unfolding movable
+  movable-column bound a t = rw (le-ltb ℓ n h, on-column n bound ℓ t h, on-column n a ℓ t h)
+
+-- ---- any line
+module _ (n ℓ : ℕ) (h : ℓ < 2 * n) where
+  pub cross-lt : (t : ℕ) → t < n → crossing n ℓ t < 2 * n
+  cross-lt t q = by-lt ℓ n (λ p. omega (arith, cross-row n ℓ p t)) (λ p. omega (arith, cross-column n ℓ p t))
+
+  pub seat-lt : seat n ℓ < n
+  seat-lt = by-lt ℓ n (λ p. omega (arith, seat-row n ℓ p)) (λ p. omega (arith, seat-column n ℓ p))
+
+  -- the line that crosses there is crossed by this one
+  pub cross-back : (t : ℕ) → t < n → crossing n (crossing n ℓ t) (seat n ℓ) ≡ ℓ
+  cross-back t q =
+      by-lt ℓ n
+      (λ p. let e = cross-row n ℓ p t in cross-column n (crossing n ℓ t) (omega arith) (seat n ℓ) ∙ seat-row n ℓ p)
+      (λ p. let e = cross-column n ℓ p t in omega (arith, cross-row n (crossing n ℓ t) (omega arith) (seat n ℓ), seat-column n ℓ p))
+
+  -- no line crosses itself
+  pub cross-other : (t : ℕ) → t < n → crossing n ℓ t ≡ ℓ → ⊥
+  cross-other t q e = by-lt ℓ n (λ p. omega (arith, cross-row n ℓ p t)) (λ p. omega (arith, cross-column n ℓ p t))

@@ -1,0 +1,4 @@
+-- The laws that the proofs of the planner's entries cite.
+pub mod KeptLaws
+pub mod PlanLaws
+pub mod PlanTheorems

@@ -1,0 +1,28 @@
+-- What is kept of a demand by the rule, before it is placed into slots.
+use Prim.Native.Nat.{ℕ, _*_, _≤_, _<_}
+use mathlib.Core.Path.{_≡_}
+use mathlib.Core.List.{List}
+use lib.ListN.{length, take, drop, replicate}
+use Rattle.sums.specs.Tables.{cell}
+use Rattle.star.specs.Tables.{Square, Demands, Capacities}
+use Rattle.star.specs.Lines.{Admissible}
+use Rattle.fair.specs.Fair.{fairKept}
+use Rattle.least.specs.Least.{Greatest, keptFrom}
+
+-- demands, capacities and tables that are long enough
+pub record KeepRoom (n : ℕ) (cap d kept withdrawn : List ℕ) : Type 0 where
+  pub some-nodes : 1 ≤ n
+  pub demand : Square n d
+  pub within : Demands n d
+  pub capacities : Capacities n cap
+  pub kept-room : n * n ≤ length kept
+  pub withdrawn-room : n * n ≤ length withdrawn
+
+-- kept and withdrawn by the rule (0 fair, any other least), their further cells as before; kept is admissible, and at most D at each pair
+pub record Kept (n rule : ℕ) (cap d kept withdrawn kept' withdrawn' : List ℕ) : Type 0 where
+  pub fair : rule ≡ 0 → (take (n * n) kept' ≡ fairKept n cap d) × (take (n * n) withdrawn' ≡ replicate (n * n) 0)
+  pub least : (rule ≡ 0 → ⊥) → (Greatest n cap d withdrawn') × (take (n * n) kept' ≡ keptFrom n cap d withdrawn')
+  pub kept-rest : drop (n * n) kept' ≡ drop (n * n) kept
+  pub withdrawn-rest : drop (n * n) withdrawn' ≡ drop (n * n) withdrawn
+  pub admissible : Admissible n cap kept'
+  pub below : (i j : ℕ) → i < n → j < n → cell n kept' i j ≤ cell n d i j

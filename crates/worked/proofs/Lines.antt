@@ -1,0 +1,36 @@
+-- The fourteen lines hold. The lines of one plan by computation, with marks for each A; a demand of nothing for every N and L; the run as it is played. Assumes nothing.
+use mathlib.Core.Path.{_≡_, refl}
+use mathlib.Core.List.{[], _∷_}
+use Rattle.sums.specs.Sums.{sumTo}
+use Rattle.sums.specs.Tables.{cell, tab, square}
+use Rattle.star.specs.Lines.{wholeFrame, lineSum, onLine, sourceOn, destinationOn, total, slack, excess}
+use Rattle.fair.specs.Fair.{fairKept, steps, step, uncut, taken, smaller, exceeds, numerator, modifiedSum, unmodifiedSum, modified, cutLine, cutCell}
+use Rattle.flow.specs.Flows.{cut}
+use Rattle.flow.proofs.Check.{all, below?, lines?, feasible?}
+use Rattle.least.specs.Least.{keptFrom, keptCell, left, longer, share, remainder, missing, before, rank, shared}
+use Rattle.worked.specs.Worked.{WorkedLines}
+use Rattle.worked.proofs.Marks.{by-marks}
+use Rattle.worked.proofs.Nothing.{nothing}
+use Rattle.worked.proofs.OneNode.{one-node}
+
+pub worked : WorkedLines
+unfolding sumTo cell tab square wholeFrame lineSum onLine sourceOn destinationOn total slack excess fairKept steps step uncut taken smaller exceeds numerator modifiedSum unmodifiedSum modified cutLine cutCell cut all below? lines? feasible? keptFrom keptCell left longer share remainder missing before rank shared
+worked = record {
+  a-fair = record { keeps = refl; refuses = refl };
+  a-least = record { withdraws = by-marks _ _ _ _ (0 ∷ 0 ∷ []) refl refl; keeps = refl; refuses = refl };
+  b-fair = record { keeps = refl; refuses = refl };
+  b-least = record { withdraws = by-marks _ _ _ _ (0 ∷ 0 ∷ []) refl refl; keeps = refl; refuses = refl };
+  c = record { withdraws = by-marks _ _ _ _ (1 ∷ 0 ∷ 1 ∷ 1 ∷ []) refl refl; keeps = refl; refuses = refl };
+  d = record { keeps = refl; refuses = refl };
+  e = record { withdraws = by-marks _ _ _ _ (0 ∷ 0 ∷ 0 ∷ 0 ∷ []) refl refl; keeps = refl; refuses = refl };
+  f = record { keeps = refl; refuses = refl };
+  g = record { withdraws = by-marks _ _ _ _ (1 ∷ 0 ∷ 0 ∷ 1 ∷ 1 ∷ 1 ∷ []) refl refl; keeps = refl; refuses = refl };
+  h = record { keeps = refl; refuses = refl };
+  i = record { withdraws = by-marks _ _ _ _ (0 ∷ 0 ∷ 0 ∷ 0 ∷ 0 ∷ 0 ∷ []) refl refl; keeps = refl; refuses = refl };
+  j = record { keeps = refl; refuses = refl };
+  k-level = record { withdraws = by-marks _ _ _ _ (0 ∷ 0 ∷ 0 ∷ 0 ∷ []) refl refl; keeps = refl; refuses = refl };
+  k-crossed = record { withdraws = by-marks _ _ _ _ (0 ∷ 0 ∷ 0 ∷ 0 ∷ []) refl refl; keeps = refl; refuses = refl };
+  l = record { withdraws = by-marks _ _ _ _ (0 ∷ 0 ∷ []) refl refl; keeps = refl; refuses = refl };
+  m = nothing;
+  n = one-node;
+}
