@@ -8,9 +8,10 @@ use mathlib.Core.Bool.{Bool, true, false, _||_}
 use mathlib.Core.List.{List, [], _∷_}
 use mathlib.Core.Option.{none}
 use lib.Dec.{ltb, leb, eqb}
-use lib.ListN.{length, getD, take, drop, length-drop}
+use lib.ListN.{length, getD, take, drop, length-append, length-drop}
 use lib.Seq.{getD-take, take-all, take-add, drop-at, length-take-le}
 use borrow.Author.Tests.{ltb-false, eqb-true, lt-ltb, le-ltb, le-leb, lt-leb}
+use Rattle.sums.specs.Tables.{written}
 use Rattle.sums.proofs.Tables.{mul-small}
 use Rattle.star.specs.declared.refusals.Refusal.{Refusal}
 use Rattle.star.specs.declared.refusals.Refusal.the-variants.{Nodes, Slots, Rule, DemandShort, TableShort, DemandAbove}
@@ -272,3 +273,8 @@ answered-junk {input} h e a = answered (left BadInput (le-ltb 65536 (length inpu
 pub answered-list : {input table out out' : List ℕ} {count r : ℕ} → length input ≤ 65536 → Holds input table count → Judged table count out out' r → Answered input out out' r
 unfolding outcome judgeList
 answered-list {input} h w j = answered (left BadInput (le-ltb 65536 (length input) h) (ap judgeList (w .listed))) (j .prints (w .numbers) (w .stored)) (j .wrote)
+
+-- the text lies within the lent bytes
+pub answered-within : {input out out' : List ℕ} {r : ℕ} → Answered input out out' r → r ≤ length out'
+unfolding written
+answered-within {input} {out} {out'} {r} a = omega (arith, a .end, ap length (a .bytes), length-append (a .text) (drop (length (a .text)) out))
