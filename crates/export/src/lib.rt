@@ -2,10 +2,10 @@
 ghost use mathlib.Core.Path.{_≡_};
 ghost use Rattle.star.specs.declared.refusals.Verdict.{Verdict};
 ghost use Rattle.star.specs.Refusals.{verdictNumber, verdictPlace};
-ghost use Rattle.planner.specs.Slacks.{SlacksResult};
+ghost use Rattle.slacks.specs.Slacks.{SlacksResult};
 ghost use Rattle.export.specs.Reports.{Reported};
 
-// `planner::slacks::slacks`; returns the number of the refusal, 0 where the call is accepted, and stores its place.
+// `slacks::slacks`; returns the number of the refusal, 0 where the call is accepted, and stores its place.
 #[no_mangle]
 pub extern "C" fn gyodaebeun_slacks(
     nodes: u32,
@@ -16,7 +16,7 @@ pub extern "C" fn gyodaebeun_slacks(
 ) -> u32
     ensures { λ r. ⌜ Reported (SlacksResult nodes slots (now (demand .entry)) (now (table .entry)) (now (table .exit))) r (now (place .exit)) ⌝ }
 {
-    let verdict = planner::slacks::slacks(nodes, slots, demand, table);
+    let verdict = slacks::slacks(nodes, slots, demand, table);
     *place = star::refusals::place(verdict);
     star::refusals::number(verdict)
 }

@@ -1,5 +1,4 @@
--- What the entries that plan one frame promise.
-pub mod Slacks
+-- What the entry `plan` promises.
 pub mod Kept
 pub mod Plans
 pub mod Theorems

@@ -1,4 +1,3 @@
-// The entries that plan one frame. Each takes any numbers and tables, checks them itself, and refuses as document 01 says.
+// The entry `plan`: what each pair keeps of its demand, and how the frame carries it.
 pub mod answers;
 pub mod kept;
-pub mod slacks;

@@ -1,56 +1,39 @@
-use Rattle.planner.proofs.KeptLaws.{kept-fairly, kept-least}
-use mathlib.Core.Path.{_∙_}
+-- `planner::kept::keep` meets its contract: each rule's promise gives what is kept. Assumes nothing.
 use borrow.Author.Needs.{needs}
+use Rattle.planner.proofs.KeptLaws.{kept-fairly, kept-least}
 use Rattle.planner.proofs.kept.keep.Statement.{statement}
 use Rattle.planner.proofs.kept.keep.Tie as tie
-use Rattle.planner.proofs.kept.keep.Reads as reads
-use Rattle.planner.proofs.kept.keep.Lts as lts
-use Rattle.fair.proofs.cut.Reads as cut-reads
-use Rattle.least.proofs.kept.keep.Reads as keep-reads
-use Rattle.least.proofs.withdrawn.withdraw.Reads as withdraw-reads
-use Rattle.star.proofs.tables.clear.Reads as clear-reads
 
--- src/kept.rt:16:9
 cut-requires : tie.Need-cut-requires
 cut-requires c κs = search needs
 
--- src/kept.rt:17:9
 clear-requires : tie.Need-clear-requires
 clear-requires c κs = search needs
 
--- src/kept.rt:18:9
 same-length : tie.Need-same-length
 same-length c = search needs
 
--- src/kept.rt:18:9
 same-length-2 : tie.Need-same-length-2
 same-length-2 c = search needs
 
--- src/kept.rt:18:9
 returns : tie.Need-returns
 returns c = kept-fairly _ _ _ _ _ _ _ _ (c .before .before .before .before .before .before .before .before .if1 .taken) (c .before .before .before .before .before .before .cut .ensures) (c .before .before .clear .ensures)
 
--- src/kept.rt:21:59
 slice-aggregate-withdraw : tie.Need-slice-aggregate-withdraw
 slice-aggregate-withdraw c = search needs
 
--- src/kept.rt:21:5
 withdraw-requires : tie.Need-withdraw-requires
 withdraw-requires c κs = search needs
 
--- src/kept.rt:22:5
 keep-requires : tie.Need-keep-requires
 keep-requires c κs = search needs
 
--- src/kept.rt:11:1
 same-length-3 : tie.Need-same-length-3
 same-length-3 c = search needs
 
--- src/kept.rt:11:1
 same-length-4 : tie.Need-same-length-4
 same-length-4 c = search needs
 
--- src/kept.rt:11:1
 returns-2 : tie.Need-returns-2
 returns-2 c = kept-least _ _ _ _ _ _ _ _ (c .before .before .before .before .before .before .before .before .before .before .before .if1 .left) (c .before .before .before .before .before .before .before .before .withdraw .ensures .greatest) (c .before .before .before .before .before .before .before .before .withdraw .ensures .rest) (c .before .before .keep .ensures)
 

@@ -1,13 +1,12 @@
-use Rattle.star.proofs.SignedLaws.{below-zero, negated-fits, negated-back, none-below-zero}
+-- `star::lines::excess` meets its contract: a negative slack is negated, and fits since it is above −4,194,241. Assumes nothing.
+use Prim.Native.Nat.{ℕ, suc, _<_, _^_}
+use native.Mathlib.Omega.{arith}
+use mathlib.Core.Path.{_≡_, refl, subst}
 use lib.Signed.{mag}
 use lib.IntN.{negsuc}
-use mathlib.Core.Path.{_≡_, refl, subst}
-use native.Mathlib.Omega.{arith}
-use Prim.Native.Nat.{ℕ, suc, _<_, _^_}
+use Rattle.star.proofs.SignedLaws.{below-zero, negated-fits, negated-back, none-below-zero}
 use Rattle.star.proofs.lines.excess.Statement.{statement}
 use Rattle.star.proofs.lines.excess.Tie as tie
-use Rattle.star.proofs.lines.excess.Reads as reads
-use Rattle.star.proofs.lines.excess.Lts as lts
 
 -- the slack as a negative number
 negated : (c : tie.Then1) → (k : ℕ) × (c .before .args .slack ≡ negsuc k) × (suc k < 2 ^ 31)
@@ -15,22 +14,18 @@ negated c =
     let g = below-zero _ (c .before .fits .slack) (c .if1 .taken) in
     (g .0, g .1, omega (arith, subst (λ z. mag z < 4194240) (g .1) (c .before .pre)))
 
--- src/lines.rt:54:21
 sub-result : tie.Need-sub-result
 sub-result c = let g = negated c in
     rw (g .1) (negated-fits (g .0) (g .2))
 
--- src/lines.rt:54:20
 cast-result : tie.Need-cast-result
 cast-result c = let g = negated c in
     rw (g .1, negated-back (g .0) (g .2)) (tt, record { fits = omega (arith, g .2) })
 
--- src/lines.rt:50:1
 returns : tie.Need-returns
 returns c = let g = negated c in
     rw (g .1, negated-back (g .0) (g .2)) refl
 
--- src/lines.rt:50:1
 returns-2 : tie.Need-returns-2
 returns-2 c = none-below-zero _ (c .before .fits .slack) (c .if1 .left)
 

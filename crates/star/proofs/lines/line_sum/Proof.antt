@@ -1,16 +1,14 @@
-use Rattle.star.proofs.LineLaws.{on-line-most}
-use Rattle.star.specs.Lines.{onLine, lineSum}
+-- `star::lines::line_sum` meets its contract: the running sum is the sum of the cells passed, each at most 65,535. Assumes nothing.
+use Prim.Native.Nat.{_≤_, _*_, _-_}
+use native.Mathlib.Omega.{arith}
+use mathlib.Core.Path.{_≡_, sym}
+use borrow.Author.Needs.{needs}
 use Rattle.sums.proofs.Sums.{sum-more, sum-none, sum-done}
 use Rattle.sums.specs.Sums.{sumTo}
-use borrow.Author.Needs.{needs}
-use mathlib.Core.Path.{_≡_, sym, ap, _∙_}
-use native.Mathlib.Omega.{arith}
-use Prim.Native.Nat.{_≤_, _*_, _-_, _+_}
+use Rattle.star.proofs.LineLaws.{on-line-most}
+use Rattle.star.specs.Lines.{onLine, lineSum}
 use Rattle.star.proofs.lines.line_sum.Statement.{statement}
 use Rattle.star.proofs.lines.line_sum.Tie as tie
-use Rattle.star.proofs.lines.line_sum.Reads as reads
-use Rattle.star.proofs.lines.line_sum.Lts as lts
-use Rattle.star.proofs.lines.on_line.Reads as on-line-reads
 
 abbrev Inv-loop : tie.InvT-loop
 Inv-loop n demand line sum₀ t₀ sum t = (t ≤ n) × (sum ≡ sumTo t (λ u. onLine n demand line u)) × (sum ≤ 65535 * t)
@@ -18,31 +16,24 @@ Inv-loop n demand line sum₀ t₀ sum t = (t ≤ n) × (sum ≡ sumTo t (λ u. 
 abbrev μ-loop : tie.MeasureT-loop
 μ-loop n demand line sum₀ t₀ sum t = n - t
 
--- src/lines.rt:34:5
 loop-holds : tie.Need-loop-holds Inv-loop μ-loop
 loop-holds c = (omega arith, sym (sum-none _), omega arith)
 
--- src/lines.rt:35:16
 on-line-requires : tie.Need-on-line-requires Inv-loop μ-loop
 on-line-requires c κs = search needs
 
--- src/lines.rt:35:9
 add-sum : tie.Need-add-sum Inv-loop μ-loop
 add-sum c = omega (arith, c .on-line .ensures, on-line-most _ _ _ _ (c .before .before .before .before .pre .1 .0) (c .before .before .before .before .pre .1 .1) (c .before .loop-test .taken))
 
--- src/lines.rt:36:9
 add-t : tie.Need-add-t Inv-loop μ-loop
 add-t c = omega arith
 
--- src/lines.rt:34:5
 loop-less : tie.Need-loop-less Inv-loop μ-loop
 loop-less c = omega arith
 
--- src/lines.rt:34:5
 loop-again : tie.Need-loop-again Inv-loop μ-loop
 loop-again c = (omega arith, omega (arith, c .before .before .loop .inv .1, c .on-line .ensures, sum-more (c .before .before .loop .t) (λ u. onLine (c .before .before .before .before .args .n) (c .before .before .before .before .args .demand .now) (c .before .before .before .before .args .line) u)), omega (arith, c .on-line .ensures, on-line-most _ _ _ _ (c .before .before .before .before .pre .1 .0) (c .before .before .before .before .pre .1 .1) (c .before .loop-test .taken)))
 
--- src/lines.rt:26:1
 returns : tie.Need-returns Inv-loop μ-loop
 unfolding lineSum
 returns c = let done : c .before .loop .t ≡ c .before .before .before .args .n = omega arith in

@@ -1,30 +1,23 @@
-use borrow.Author.Needs.{needs}
-use Rattle.sums.proofs.Tables.{mul-small}
-use Rattle.sums.specs.Tables.{cell}
-use lib.Arith.{digits-lt}
+-- `star::tables::get` meets its contract: the place of a pair is below N×N. Assumes nothing.
 use native.Mathlib.Omega.{arith}
+use lib.Arith.{digits-lt}
+use borrow.Author.Needs.{needs}
+use Rattle.sums.specs.Tables.{cell}
 use Rattle.star.proofs.tables.get.Statement.{statement}
 use Rattle.star.proofs.tables.get.Tie as tie
-use Rattle.star.proofs.tables.get.Reads as reads
-use Rattle.star.proofs.tables.get.Lts as lts
 
--- src/tables.rt:14:11
 mul-result : tie.Need-mul-result
 mul-result c = omega (arith, digits-lt (c .pre .1 .0) (c .pre .1 .1))
 
--- src/tables.rt:14:11
 add-result : tie.Need-add-result
 add-result c = omega (arith, digits-lt (c .pre .1 .0) (c .pre .1 .1))
 
--- src/tables.rt:14:5
 mul-result-2 : tie.Need-mul-result-2
 mul-result-2 c = omega (arith, digits-lt (c .pre .1 .0) (c .pre .1 .1))
 
--- src/tables.rt:14:5
 shared-slice-read-result : tie.Need-shared-slice-read-result
 shared-slice-read-result c = omega (arith, digits-lt (c .before .pre .1 .0) (c .before .pre .1 .1))
 
--- src/tables.rt:9:1
 returns : tie.Need-returns
 unfolding cell
 returns c = search needs

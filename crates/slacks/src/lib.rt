@@ -10,7 +10,7 @@ ghost use lib.ListN.{length};
 ghost use Rattle.sums.specs.Tables.{tab, written};
 ghost use Rattle.star.specs.Tables.{Square, Demands, Capacities};
 ghost use Rattle.star.specs.Lines.{slack};
-ghost use Rattle.planner.specs.Slacks.{SlacksResult};
+ghost use Rattle.slacks.specs.Slacks.{SlacksResult};
 
 // Writes the slack of each line, given the capacity of each.
 fn fill(n: usize, cap: &[u32], demand: &[u32], table: &mut [i32])

@@ -1,0 +1,2 @@
+-- What the entry `slacks` promises.
+pub mod Slacks
