@@ -1,0 +1,5 @@
+// What placing works on, read and written in one place each: short lists, tables of 16-bit numbers, the slots of a schedule.
+// No index of a pair or of a slot is computed anywhere else above.
+pub mod frames;
+pub mod lists;
+pub mod tables;

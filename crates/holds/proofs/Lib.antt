@@ -1,0 +1,3 @@
+-- The laws of holding a pairing.
+pub mod Turns
+pub mod Placing

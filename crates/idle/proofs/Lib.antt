@@ -1,0 +1,3 @@
+-- The laws of padding.
+pub mod LineStores
+pub mod Pads

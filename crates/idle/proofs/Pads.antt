@@ -1,0 +1,293 @@
+-- Padding: what each loop keeps. A pair that got the smaller of what its lines lack leaves one of them lacking nothing; rows and columns
+-- lack the same in all, so in the end nobody lacks anything. The laws assume nothing.
+use mathlib.Core.Path.{_≡_, refl, sym, ap, _∙_}
+use mathlib.Core.Logic.{_⊎_, ⊎-elim, inl, inr}
+use mathlib.Core.List.{List}
+use Prim.Native.Nat.{ℕ, _+_, _-_, _*_, _≤_, _<_, min}
+use native.Mathlib.Omega.{arith}
+use borrow.Author.Count.{below-more}
+use lib.Arith.{digits-lt}
+use lib.ListN.{length, getD, set, length-set}
+use lib.Seq.{getD-set-same, getD-set-other}
+use Rattle.sums.specs.Sums.{sumTo, hit}
+use Rattle.sums.specs.Tables.{cell}
+use Rattle.sums.proofs.Sums.{sum-ext, sum-add, sum-at, sum-all-zero, hit-same, hit-other}
+use Rattle.sums.proofs.Cases.{by-eq, by-lt}
+use Rattle.sums.proofs.Tables.{cell-lt, set-here, set-row, set-col}
+use Rattle.star.specs.Tables.{Square, Demands}
+use Rattle.star.specs.Lines.{lineSum, total}
+use Rattle.star.proofs.LineLaws.{total-rows, total-columns, line-ext}
+use Rattle.arrays.proofs.Stores.{stored-more, square-kept}
+use Rattle.idle.specs.Idle.{Small, Copied, LineSums, Largest, Lacking, Lacks, CanPad, Fuller, PaddedAt, PaddedRow, PaddedAll, CanFill, Padded}
+use Rattle.idle.proofs.LineStores.{cell-row, place-row-sum, line-more}
+
+-- ---- the matrix, copied up to p
+pub record Copying (n : ℕ) (kept table0 table : List ℕ) (p : ℕ) : Type 0 where
+  pub within : p ≤ n * n
+  pub len : length table ≡ length table0
+  pub all : (q : ℕ) → q < p → getD table q 0 ≡ getD kept q 0
+
+pub copy-step : {n : ℕ} {kept table0 table : List ℕ} {p : ℕ} → Square n table0 → Copying n kept table0 table p → p < n * n → Copying n kept table0 (set table p (getD kept p 0)) (p + 1)
+copy-step {kept = kept} {table = table} {p = p} h g lt = record {
+  within = omega arith;
+  len = length-set table p (getD kept p 0) ∙ g .len;
+  all = stored-more (λ q. getD kept q 0) table p (getD kept p 0) (omega (arith, g .len, h .cells)) refl (g .all);
+}
+
+pub copy-end : {n : ℕ} {kept table0 table : List ℕ} {p : ℕ} → Copying n kept table0 table p → n * n ≤ p → Copied n kept table
+unfolding cell
+copy-end {n = n} g le = record { cells = λ i j hi hj. g .all (i * n + j) (omega (arith, cell-lt n i j hi hj)) }
+
+-- small line sums are sums of demands
+pub small-demands : (n : ℕ) (kept : List ℕ) → Small n kept → Demands n kept
+small-demands n kept h = record { most = λ p lt. omega (arith, place-row-sum n kept p 1024 (h .lines) lt) }
+
+pub small-place : {n : ℕ} {kept : List ℕ} → Small n kept → (p : ℕ) → p < n * n → getD kept p 0 < 65536
+small-place {n} {kept} h p lt = omega (arith, place-row-sum n kept p 1024 (h .lines) lt)
+
+-- ---- the sums of the lines below m
+pub record Summing (n : ℕ) (kept sums0 sums : List ℕ) (m : ℕ) : Type 0 where
+  pub within : m ≤ 2 * n
+  pub len : length sums ≡ length sums0
+  pub all : (ℓ : ℕ) → ℓ < m → getD sums ℓ 0 ≡ lineSum n kept ℓ
+
+pub sums-step : {n : ℕ} {kept sums0 sums : List ℕ} {m b : ℕ} → 2 * n ≤ length sums0 → Summing n kept sums0 sums m → m < 2 * n → b ≡ lineSum n kept m → Summing n kept sums0 (set sums m b) (m + 1)
+sums-step {n = n} {kept = kept} {sums = sums} {m = m} {b = b} fits g lt e = record {
+  within = omega arith;
+  len = length-set sums m b ∙ g .len;
+  all = stored-more (lineSum n kept) sums m b (omega (arith, g .len)) e (g .all);
+}
+
+-- ---- the largest of the sums below m
+pub record Topping (n : ℕ) (sums : List ℕ) (most m : ℕ) : Type 0 where
+  pub within : m ≤ 2 * n
+  pub above : (ℓ : ℕ) → ℓ < m → getD sums ℓ 0 ≤ most
+  pub least : (b : ℕ) → ((ℓ : ℕ) → ℓ < 2 * n → getD sums ℓ 0 ≤ b) → most ≤ b
+
+pub top-step : {n : ℕ} {sums : List ℕ} {most m : ℕ} (most' : ℕ) → Topping n sums most m → m < 2 * n → most ≤ most' → getD sums m 0 ≤ most'
+    → ((b : ℕ) → most ≤ b → getD sums m 0 ≤ b → most' ≤ b) → Topping n sums most' (m + 1)
+top-step {sums = sums} {m = m} most' g lt up here low = record {
+  within = omega arith;
+  above = below-more (λ (ℓ : ℕ). getD sums ℓ 0 ≤ most') m (λ ℓ h. omega (arith, g .above ℓ h)) here;
+  least = λ b all. low b (g .least b all) (all m lt);
+}
+
+-- ---- what the lines below m lack, in place of their sums
+pub record Lessening (n : ℕ) (sums lack : List ℕ) (r m : ℕ) : Type 0 where
+  pub within : m ≤ 2 * n
+  pub len : length lack ≡ length sums
+  pub done : (ℓ : ℕ) → ℓ < m → getD sums ℓ 0 + getD lack ℓ 0 ≡ r
+  pub rest : (ℓ : ℕ) → m ≤ ℓ → getD lack ℓ 0 ≡ getD sums ℓ 0
+
+pub lack-step : {n : ℕ} {sums lack : List ℕ} {r m : ℕ} → 2 * n ≤ length sums → Largest n sums r → Lessening n sums lack r m → m < 2 * n
+    → Lessening n sums (set lack m (r - getD lack m 0)) r (m + 1)
+lack-step {sums = sums} {lack = lack} {r = r} {m = m} fits h g lt =
+    record {
+      within = omega arith;
+      len = length-set lack m (r - getD lack m 0) ∙ g .len;
+      done = below-more (λ (ℓ : ℕ). getD sums ℓ 0 + getD (set lack m (r - getD lack m 0)) ℓ 0 ≡ r) m
+          (λ ℓ hl. omega (arith, getD-set-other lack m ℓ (r - getD lack m 0) 0 (λ e. omega arith), g .done ℓ hl))
+          (omega (arith, getD-set-same lack m (r - getD lack m 0) 0 (omega (arith, g .len)), g .rest m (omega arith), h .above m lt));
+      rest = λ ℓ hl. getD-set-other lack m ℓ (r - getD lack m 0) 0 (λ e. omega arith) ∙ g .rest ℓ (omega arith);
+    }
+
+-- ---- one pair
+pub can-kept : {n : ℕ} {v lack v' lack' : List ℕ} → length v' ≡ length v → length lack' ≡ length lack → Fuller n v lack v' lack' → CanPad n v lack → CanPad n v' lack'
+can-kept {v = v} {v' = v'} ev el f c = record {
+  square = square-kept v v' ev (c .square);
+  lines = omega (arith, c .lines);
+  r = c .r;
+  small = c .small;
+  lacks = f .keeps (c .r) (c .lacks);
+}
+
+module _ {n : ℕ} {v lack : List ℕ} (c : CanPad n v lack) {i j : ℕ} (hi : i < n) (hj : j < n) {row column idle : ℕ}
+    (er : row ≡ getD lack i 0) (ec : column ≡ getD lack (n + j) 0) (ei : idle ≡ min row column) where
+  -- with its idle slots the pair has no more than r
+  pub pad-small : cell n v i j + idle ≤ 1024
+  pad-small = omega (arith, cell-row n v i j hi hj, c .lacks .lines i (omega arith), c .small)
+
+  first-other : (ℓ : ℕ) → (ℓ ≡ i → ⊥) → getD (set lack i (row - idle)) ℓ 0 ≡ getD lack ℓ 0
+  first-other ℓ ne = getD-set-other lack i ℓ (row - idle) 0 ne
+
+  lack-row : getD (set (set lack i (row - idle)) (n + j) (column - idle)) i 0 ≡ row - idle
+  lack-row =
+      getD-set-other (set lack i (row - idle)) (n + j) i (column - idle) 0 (λ e. omega arith)
+      ∙ getD-set-same lack i (row - idle) 0 (omega (arith, c .lines))
+
+  lack-column : getD (set (set lack i (row - idle)) (n + j) (column - idle)) (n + j) 0 ≡ column - idle
+  lack-column = getD-set-same (set lack i (row - idle)) (n + j) (column - idle) 0 (omega (arith, c .lines, length-set lack i (row - idle)))
+
+  -- both lines lack so much less
+  lack-less : (ℓ : ℕ) → getD (set (set lack i (row - idle)) (n + j) (column - idle)) ℓ 0 + idle * (hit i ℓ + hit (n + j) ℓ) ≡ getD lack ℓ 0
+  lack-less ℓ =
+      by-eq i ℓ
+      (λ e.
+      let one : hit i ℓ ≡ 1 = hit-same e in
+      let none : hit (n + j) ℓ ≡ 0 = hit-other (λ q. omega arith) in
+      rw (one, none) (rw (sym e) (omega (arith, lack-row))))
+      (λ ne. by-eq (n + j) ℓ
+      (λ e.
+      let none : hit i ℓ ≡ 0 = hit-other ne in
+      let one : hit (n + j) ℓ ≡ 1 = hit-same e in
+      rw (none, one) (rw (sym e) (omega (arith, lack-column))))
+      (λ nc.
+      let no-row : hit i ℓ ≡ 0 = hit-other ne in
+      let no-column : hit (n + j) ℓ ≡ 0 = hit-other nc in
+      rw (no-row, no-column)
+      (omega (
+        arith,
+        getD-set-other (set lack i (row - idle)) (n + j) ℓ (column - idle) 0 (λ q. nc (sym q)),
+        first-other ℓ (λ q. ne (sym q)),
+      ))))
+
+  pub pad-law : PaddedAt n v lack (set v (i * n + j) (cell n v i j + idle)) (set (set lack i (row - idle)) (n + j) (column - idle)) i j
+  pad-law =
+      let here = set-here n v i j (cell n v i j + idle) hj (omega (arith, cell-lt n i j hi hj, c .square .cells)) in
+      let rows : (a b : ℕ) → a < n → b < n → (a ≡ i → ⊥) → cell n (set v (i * n + j) (cell n v i j + idle)) a b ≡ cell n v a b =
+      λ a b ha hb ne. set-row n v i j (cell n v i j + idle) hj a b hb ne in
+      let columns : (a b : ℕ) → a < n → b < n → (b ≡ j → ⊥) → cell n (set v (i * n + j) (cell n v i j + idle)) a b ≡ cell n v a b =
+      λ a b ha hb ne. set-col n v i j (cell n v i j + idle) hj a b hb ne in
+      record {
+        fuller = record {
+          keeps = λ r l. record {
+            lines = λ ℓ hl. omega (arith, l .lines ℓ hl, lack-less ℓ, line-more n v (set v (i * n + j) (cell n v i j + idle)) i j idle hi hj here rows columns ℓ hl);
+          };
+          lines = λ ℓ hl. omega (arith, lack-less ℓ);
+          cells = λ a b ha hb. by-eq a i
+              (λ e. by-eq b j (λ q. rw (e, q) (omega (arith, here))) (λ nb. omega (arith, columns a b ha hb nb)))
+              (λ ne. omega (arith, rows a b ha hb ne));
+        };
+        none = by-lt row column
+            (λ lt. inl (lack-row ∙ omega arith))
+            (λ le. inr (lack-column ∙ omega arith));
+      }
+
+-- ---- the pairs of a row, and all rows
+fuller-none : (n : ℕ) (v lack : List ℕ) → Fuller n v lack v lack
+fuller-none n v lack = record { keeps = λ r l. l; lines = λ ℓ h. omega arith; cells = λ i j hi hj. omega arith }
+
+fuller-more : {n : ℕ} {v lack v' lack' v'' lack'' : List ℕ} → Fuller n v lack v' lack' → Fuller n v' lack' v'' lack'' → Fuller n v lack v'' lack''
+fuller-more a b = record {
+  keeps = λ r l. b .keeps r (a .keeps r l);
+  lines = λ ℓ h. omega (arith, a .lines ℓ h, b .lines ℓ h);
+  cells = λ i j hi hj. omega (arith, a .cells i j hi hj, b .cells i j hi hj);
+}
+
+-- a line that lacks nothing goes on to lack nothing
+zero-kept : {n : ℕ} {v lack v' lack' : List ℕ} → Fuller n v lack v' lack' → (i j : ℕ) → i < n → j < n → (getD lack i 0 ≡ 0) ⊎ (getD lack (n + j) 0 ≡ 0) → (getD lack' i 0 ≡ 0) ⊎ (getD lack' (n + j) 0 ≡ 0)
+zero-kept {n = n} f i j hi hj z =
+    ⊎-elim (λ e. inl (omega (arith, f .lines i (omega arith)))) (λ e. inr (omega (arith, f .lines (n + j) (omega arith)))) z
+
+pub record RowPadding (n : ℕ) (v lack v' lack' : List ℕ) (i m : ℕ) : Type 0 where
+  pub within : m ≤ n
+  pub padded : PaddedRow n v lack v' lack' i m
+  pub table-len : length v' ≡ length v
+  pub lack-len : length lack' ≡ length lack
+
+pub row-start : (n : ℕ) (v lack : List ℕ) (i : ℕ) → RowPadding n v lack v lack i 0
+row-start n v lack i = record {
+  within = omega arith;
+  padded = record { fuller = fuller-none n v lack; none = λ j lt. absurd (omega arith) };
+  table-len = refl;
+  lack-len = refl;
+}
+
+pub row-can : {n : ℕ} {v lack v' lack' : List ℕ} {i m : ℕ} → CanPad n v lack → RowPadding n v lack v' lack' i m → CanPad n v' lack'
+row-can c g = can-kept (g .table-len) (g .lack-len) (g .padded .fuller) c
+
+pub row-step : {n : ℕ} {v lack v' lack' v'' lack'' : List ℕ} {i m : ℕ} → i < n → m < n → RowPadding n v lack v' lack' i m → length v'' ≡ length v' → length lack'' ≡ length lack'
+    → PaddedAt n v' lack' v'' lack'' i m → RowPadding n v lack v'' lack'' i (m + 1)
+row-step {n = n} {lack'' = lack''} {i = i} {m = m} hi hm g ev el p = record {
+  within = omega arith;
+  padded = record {
+    fuller = fuller-more (g .padded .fuller) (p .fuller);
+    none = below-more (λ (j : ℕ). (getD lack'' i 0 ≡ 0) ⊎ (getD lack'' (n + j) 0 ≡ 0)) m
+        (λ j hj. zero-kept (p .fuller) i j hi (omega arith) (g .padded .none j hj)) (p .none);
+  };
+  table-len = ev ∙ g .table-len;
+  lack-len = el ∙ g .lack-len;
+}
+
+pub row-end : {n : ℕ} {v lack v' lack' : List ℕ} {i m : ℕ} → RowPadding n v lack v' lack' i m → n ≤ m → PaddedRow n v lack v' lack' i n
+row-end g le = record { fuller = g .padded .fuller; none = λ j hj. g .padded .none j (omega arith) }
+
+-- the rows below m are done
+pub record AllPadding (n : ℕ) (v lack v' lack' : List ℕ) (m : ℕ) : Type 0 where
+  pub within : m ≤ n
+  pub fuller : Fuller n v lack v' lack'
+  pub none : (i : ℕ) → i < m → (j : ℕ) → j < n → (getD lack' i 0 ≡ 0) ⊎ (getD lack' (n + j) 0 ≡ 0)
+  pub table-len : length v' ≡ length v
+  pub lack-len : length lack' ≡ length lack
+
+pub all-start : (n : ℕ) (v lack : List ℕ) → AllPadding n v lack v lack 0
+all-start n v lack = record { within = omega arith; fuller = fuller-none n v lack; none = λ i lt. absurd (omega arith); table-len = refl; lack-len = refl }
+
+pub all-can : {n : ℕ} {v lack v' lack' : List ℕ} {m : ℕ} → CanPad n v lack → AllPadding n v lack v' lack' m → CanPad n v' lack'
+all-can c g = can-kept (g .table-len) (g .lack-len) (g .fuller) c
+
+pub all-step : {n : ℕ} {v lack v' lack' v'' lack'' : List ℕ} {m : ℕ} → m < n → AllPadding n v lack v' lack' m → length v'' ≡ length v' → length lack'' ≡ length lack'
+    → PaddedRow n v' lack' v'' lack'' m n → AllPadding n v lack v'' lack'' (m + 1)
+all-step {n = n} {lack'' = lack''} {m = m} hm g ev el p = record {
+  within = omega arith;
+  fuller = fuller-more (g .fuller) (p .fuller);
+  none = below-more (λ (i : ℕ). (j : ℕ) → j < n → (getD lack'' i 0 ≡ 0) ⊎ (getD lack'' (n + j) 0 ≡ 0)) m
+      (λ i hi j hj. zero-kept (p .fuller) i j (omega arith) hj (g .none i hi j hj)) (p .none);
+  table-len = ev ∙ g .table-len;
+  lack-len = el ∙ g .lack-len;
+}
+
+-- ---- the end: rows and columns lack the same in all
+module _ {n : ℕ} {v lack : List ℕ} {r : ℕ} (l : Lacks n v lack r) (none : (i j : ℕ) → i < n → j < n → (getD lack i 0 ≡ 0) ⊎ (getD lack (n + j) 0 ≡ 0)) where
+  same-lack : sumTo n (λ i. getD lack i 0) ≡ sumTo n (λ j. getD lack (n + j) 0)
+  same-lack = omega (
+    arith,
+    sum-ext n (λ i. lineSum n v i + getD lack i 0) (λ i. r) (λ i hi. l .lines i (omega arith)),
+    sum-ext n (λ j. lineSum n v (n + j) + getD lack (n + j) 0) (λ j. r) (λ j hj. l .lines (n + j) (omega arith)),
+    sum-add n (lineSum n v) (λ i. getD lack i 0),
+    sum-add n (λ j. lineSum n v (n + j)) (λ j. getD lack (n + j) 0),
+    total-rows n v,
+    total-columns n v,
+  )
+
+  no-row : (i : ℕ) → i < n → getD lack i 0 ≡ 0
+  no-row i hi =
+      by-eq (getD lack i 0) 0 (λ e. e)
+      (λ ne. omega (
+        arith,
+        sum-at n (λ a. getD lack a 0) i hi,
+        same-lack,
+        sum-all-zero n (λ j. getD lack (n + j) 0) (λ j hj. ⊎-elim (λ e. absurd (ne e)) (λ e. e) (none i j hi hj)),
+      ))
+
+  no-column : (j : ℕ) → j < n → getD lack (n + j) 0 ≡ 0
+  no-column j hj = omega (arith, sum-at n (λ a. getD lack (n + a) 0) j hj, same-lack, sum-all-zero n (λ i. getD lack i 0) no-row)
+
+  no-lack : (ℓ : ℕ) → ℓ < 2 * n → getD lack ℓ 0 ≡ 0
+  no-lack ℓ hl =
+      by-lt ℓ n (λ lt. no-row ℓ lt)
+      (λ le. let e : n + (ℓ - n) ≡ ℓ = omega arith in rw e at (no-column (ℓ - n) (omega arith)))
+
+  pub full-lines : (ℓ : ℕ) → ℓ < 2 * n → lineSum n v ℓ ≡ r
+  full-lines ℓ hl = omega (arith, l .lines ℓ hl, no-lack ℓ hl)
+
+pub all-end : {n : ℕ} {v lack v' lack' : List ℕ} {m : ℕ} → AllPadding n v lack v' lack' m → n ≤ m → PaddedAll n v v' lack
+all-end g le = record {
+  lines = λ r l. full-lines (g .fuller .keeps r l) (λ i j hi hj. g .none i (omega arith) j hj);
+  cells = g .fuller .cells;
+}
+
+-- ---- the whole
+pub most-small : {n : ℕ} {kept sums : List ℕ} {r : ℕ} → Small n kept → LineSums n kept sums → Largest n sums r → r ≤ 1024
+most-small small s t = t .least 1024 (λ ℓ h. omega (arith, s .all ℓ h, small .lines ℓ h))
+
+module _ {n : ℕ} {kept v sums : List ℕ} {r : ℕ} (c : Copied n kept v) (s : LineSums n kept sums) (t : Largest n sums r) where
+  pub lacks-of : {lack : List ℕ} → Lacking n sums lack r → Lacks n v lack r
+  lacks-of k = record { lines = λ ℓ h. omega (arith, k .all ℓ h, s .all ℓ h, line-ext n v kept (c .cells) ℓ h) }
+
+  pub padded-of : {v' lack : List ℕ} → Lacking n sums lack r → PaddedAll n v v' lack → Padded n kept v' r
+  padded-of k p = record {
+    lines = p .lines r (lacks-of k);
+    cells = λ i j hi hj. omega (arith, p .cells i j hi hj, c .cells i j hi hj);
+    least = λ b h. t .least b (λ ℓ hl. omega (arith, s .all ℓ hl, h ℓ hl));
+  }

@@ -1,0 +1,3 @@
+-- The laws of sets of nodes.
+pub mod Members
+pub mod Sizes

@@ -1,0 +1,177 @@
+-- What the operations on binary digits do to the members: each goes digit by digit, by one induction. The laws assume nothing.
+use mathlib.Core.Path.{_≡_, refl, sym, ap, _∙_}
+use mathlib.Core.Logic.{_⊎_, ⊎-elim, inl, inr}
+use Prim.Native.Nat.{ℕ, zero, suc, _+_, _-_, _*_, _/_, _%_, _^_, _<_, min, max}
+use native.Mathlib.Omega.{arith}
+use native.Mathlib.Nat.{mod-lt, zero-lt-suc, div-div-eq-div-mul, pow-succ'}
+use lib.Arith.{digits-div, digits-mod}
+use lib.Dec.{eqb}
+use borrow.Author.Tests.{eqb-true, eqb-false}
+use lib.Bits.{bitAnd, bitOr, bitXor, differ, and-step, or-step, xor-step, and-mask, shifted-half, shifted-even}
+use lib.Pow.{shl-exact, pow-pos}
+use lib.Count.{trailingZeros, under, trailing-le}
+use Rattle.sums.proofs.Cases.{by-eq}
+use Rattle.nodes.specs.Sets.{member, Has, With, Without, First}
+
+bit-case : (x : ℕ) → x < 2 → (x ≡ 0) ⊎ (x ≡ 1)
+bit-case x h = by-eq x 0 (λ e. inl e) (λ ne. inr (omega arith))
+
+bit-all : (P : ℕ → ℕ → Type 0) → P 0 0 → P 0 1 → P 1 0 → P 1 1 → (x y : ℕ) → x < 2 → y < 2 → P x y
+bit-all P a b c d x y hx hy =
+    ⊎-elim
+    (λ (ex : x ≡ 0). ⊎-elim (λ (ey : y ≡ 0). rw (ex, ey) a) (λ (ey : y ≡ 1). rw (ex, ey) b) (bit-case y hy))
+    (λ (ex : x ≡ 1). ⊎-elim (λ (ey : y ≡ 0). rw (ex, ey) c) (λ (ey : y ≡ 1). rw (ex, ey) d) (bit-case y hy))
+    (bit-case x hx)
+
+bit-min : (x y : ℕ) → x < 2 → y < 2 → min x y ≡ x * y
+bit-min = bit-all (λ x y. min x y ≡ x * y) refl refl refl refl
+
+bit-max : (x y : ℕ) → x < 2 → y < 2 → max x y + x * y ≡ x + y
+bit-max = bit-all (λ x y. max x y + x * y ≡ x + y) refl refl refl refl
+
+bit-differ : (x y : ℕ) → x < 2 → y < 2 → differ x y + 2 * (x * y) ≡ x + y
+bit-differ = bit-all (λ x y. differ x y + 2 * (x * y) ≡ x + y) refl refl refl refl
+
+bit-min-lt : (x y : ℕ) → x < 2 → y < 2 → min x y < 2
+bit-min-lt = bit-all (λ x y. min x y < 2) (omega arith) (omega arith) (omega arith) (omega arith)
+
+bit-max-lt : (x y : ℕ) → x < 2 → y < 2 → max x y < 2
+bit-max-lt = bit-all (λ x y. max x y < 2) (omega arith) (omega arith) (omega arith) (omega arith)
+
+bit-differ-lt : (x y : ℕ) → x < 2 → y < 2 → differ x y < 2
+bit-differ-lt = bit-all (λ x y. differ x y < 2) (omega arith) (omega arith) (omega arith) (omega arith)
+
+low-lt : (s : ℕ) → s % 2 < 2
+low-lt s = mod-lt s (zero-lt-suc 1)
+
+pub member-lt : (i s : ℕ) → member i s < 2
+unfolding member
+member-lt zero s = low-lt s
+member-lt (suc i) s = member-lt i (s / 2)
+
+-- an operation by digits, member by member
+module _ (op f : ℕ → ℕ → ℕ) (step : (a b : ℕ) → op a b ≡ op (a / 2) (b / 2) * 2 + f (a % 2) (b % 2)) (lt : (x y : ℕ) → x < 2 → y < 2 → f x y < 2) where
+  pub by-members : (i s t : ℕ) → member i (op s t) ≡ f (member i s) (member i t)
+  unfolding member
+  by-members zero s t = ap (λ (x : ℕ). x % 2) (step s t) ∙ digits-mod (op (s / 2) (t / 2)) (lt (s % 2) (t % 2) (low-lt s) (low-lt t))
+  by-members (suc i) s t = ap (member i) (ap (λ (x : ℕ). x / 2) (step s t) ∙ digits-div (op (s / 2) (t / 2)) (lt (s % 2) (t % 2) (low-lt s) (low-lt t))) ∙ by-members i (s / 2) (t / 2)
+
+pub and-member : (i s t : ℕ) → member i (bitAnd s t) ≡ member i s * member i t
+and-member i s t = by-members bitAnd min and-step bit-min-lt i s t ∙ bit-min (member i s) (member i t) (member-lt i s) (member-lt i t)
+
+pub or-member : (i s t : ℕ) → member i (bitOr s t) + member i s * member i t ≡ member i s + member i t
+or-member i s t = ap (λ (x : ℕ). x + member i s * member i t) (by-members bitOr max or-step bit-max-lt i s t) ∙ bit-max (member i s) (member i t) (member-lt i s) (member-lt i t)
+
+pub xor-member : (i s t : ℕ) → member i (bitXor s t) + 2 * (member i s * member i t) ≡ member i s + member i t
+xor-member i s t = ap (λ (x : ℕ). x + 2 * (member i s * member i t)) (by-members bitXor differ xor-step bit-differ-lt i s t) ∙ bit-differ (member i s) (member i t) (member-lt i s) (member-lt i t)
+
+-- the set of one node
+pub member-none : (i : ℕ) → member i 0 ≡ 0
+unfolding member
+member-none zero = refl
+member-none (suc i) = member-none i
+
+one-here : (i : ℕ) → member i (1 * 2 ^ i) ≡ 1
+unfolding member
+one-here zero = refl
+one-here (suc i) = ap (member i) (shifted-half 1 i) ∙ one-here i
+
+one-else : (i j : ℕ) → (i ≡ j → ⊥) → member i (1 * 2 ^ j) ≡ 0
+unfolding member
+one-else zero zero ne = absurd (ne refl)
+one-else zero (suc j) ne = shifted-even 1 j
+one-else (suc i) zero ne = member-none i
+one-else (suc i) (suc j) ne = ap (member i) (shifted-half 1 j) ∙ one-else i j (λ e. ne (ap suc e))
+
+-- as the machine shifts
+one-is : (i : ℕ) → i < 64 → (1 * 2 ^ i) % 2 ^ 64 ≡ 1 * 2 ^ i
+one-is i h = shl-exact {a = 1} 1 i 64 (omega arith) (omega arith)
+
+pub with-law : (s i : ℕ) → i < 64 → With s i (bitOr s ((1 * 2 ^ i) % 2 ^ 64))
+with-law s i h =
+    let on : member i ((1 * 2 ^ i) % 2 ^ 64) ≡ 1 = ap (member i) (one-is i h) ∙ one-here i in
+    record {
+      here =
+          let q : member i (bitOr s ((1 * 2 ^ i) % 2 ^ 64)) + member i s * 1 ≡ member i s + 1 = rw on at (or-member i s ((1 * 2 ^ i) % 2 ^ 64)) in
+          omega arith;
+      other = λ j ne.
+          let off : member j ((1 * 2 ^ i) % 2 ^ 64) ≡ 0 = ap (member j) (one-is i h) ∙ one-else j i ne in
+          let q : member j (bitOr s ((1 * 2 ^ i) % 2 ^ 64)) + member j s * 0 ≡ member j s + 0 = rw off at (or-member j s ((1 * 2 ^ i) % 2 ^ 64)) in
+          omega arith;
+    }
+
+pub minus-law : (s t j : ℕ) → member j (bitXor s (bitAnd s t)) + member j s * member j t ≡ member j s
+minus-law s t j =
+    let x : member j (bitXor s (bitAnd s t)) + 2 * (member j s * member j (bitAnd s t)) ≡ member j s + member j (bitAnd s t) = xor-member j s (bitAnd s t) in
+    let a : member j (bitAnd s t) ≡ member j s * member j t = and-member j s t in
+    let sq : member j s * member j (bitAnd s t) ≡ member j (bitAnd s t) =
+    ⊎-elim (λ (e : member j s ≡ 0). rw (a, e) (omega arith)) (λ (e : member j s ≡ 1). rw (a, e) (omega arith)) (bit-case (member j s) (member-lt j s)) in
+    omega (arith, x, a, sq)
+
+pub without-law : (s i : ℕ) → i < 64 → Without s i (bitXor s (bitAnd s ((1 * 2 ^ i) % 2 ^ 64)))
+without-law s i h =
+    let on : member i ((1 * 2 ^ i) % 2 ^ 64) ≡ 1 = ap (member i) (one-is i h) ∙ one-here i in
+    record {
+      here = omega (arith, rw on at (minus-law s ((1 * 2 ^ i) % 2 ^ 64) i));
+      other = λ j ne.
+          let off : member j ((1 * 2 ^ i) % 2 ^ 64) ≡ 0 = ap (member j) (one-is i h) ∙ one-else j i ne in
+          omega (arith, rw off at (minus-law s ((1 * 2 ^ i) % 2 ^ 64) j));
+    }
+
+shift-member : (i s : ℕ) → (s / 2 ^ i) % 2 ≡ member i s
+unfolding member
+shift-member zero s = let e : s / 1 ≡ s = omega arith in ap (λ (x : ℕ). x % 2) e
+shift-member (suc i) s = ap (λ (x : ℕ). (s / x) % 2) (pow-succ' 2 i) ∙ ap (λ (x : ℕ). x % 2) (sym (div-div-eq-div-mul s 2 (2 ^ i))) ∙ shift-member i (s / 2)
+
+pub has-law : (s i : ℕ) → Has s i (eqb (bitAnd (s / 2 ^ i) 1) 1)
+has-law s i =
+    let e : bitAnd (s / 2 ^ i) 1 ≡ member i s = and-mask (s / 2 ^ i) 1 ∙ shift-member i s in
+    record {
+      there = λ t. sym e ∙ eqb-true (bitAnd (s / 2 ^ i) 1) 1 t;
+      missing = λ f.
+          let ne : (member i s ≡ 1 → ⊥) = λ q. eqb-false (bitAnd (s / 2 ^ i) 1) 1 f (e ∙ q) in
+          omega (arith, member-lt i s);
+    }
+
+module _ (k s : ℕ) where
+  zeros-even : s % 2 ≡ 0 → trailingZeros (suc k) s ≡ suc (trailingZeros k (s / 2))
+  unfolding trailingZeros
+  zeros-even e = ap (λ (d : ℕ). under d (trailingZeros k (s / 2))) e
+
+  zeros-odd : s % 2 ≡ 1 → trailingZeros (suc k) s ≡ 0
+  unfolding trailingZeros
+  zeros-odd e = ap (λ (d : ℕ). under d (trailingZeros k (s / 2))) e
+
+zeros-found : (k s : ℕ) → trailingZeros k s < k → member (trailingZeros k s) s ≡ 1
+unfolding member
+zeros-found zero s lt = absurd (omega arith)
+zeros-found (suc k) s lt =
+    ⊎-elim
+    (λ e. ap (λ (x : ℕ). member x s) (zeros-even k s e) ∙ zeros-found k (s / 2) (omega (arith, zeros-even k s e)))
+    (λ e. ap (λ (x : ℕ). member x s) (zeros-odd k s e) ∙ e)
+    (bit-case (s % 2) (low-lt s))
+
+zeros-before : (k s j : ℕ) → j < trailingZeros k s → member j s ≡ 0
+unfolding member
+zeros-before zero s j lt = absurd (omega (arith, trailing-le 0 s))
+zeros-before (suc k) s zero lt =
+    ⊎-elim (λ e. e) (λ e. absurd (omega (arith, zeros-odd k s e))) (bit-case (s % 2) (low-lt s))
+zeros-before (suc k) s (suc j) lt =
+    ⊎-elim (λ e. zeros-before k (s / 2) j (omega (arith, zeros-even k s e))) (λ e. absurd (omega (arith, zeros-odd k s e))) (bit-case (s % 2) (low-lt s))
+
+pub first-law : (s : ℕ) → First s (trailingZeros 64 s)
+first-law s = record { within = trailing-le 64 s; found = zeros-found 64 s; before = zeros-before 64 s }
+
+-- the set of all nodes
+pub member-all : (k i : ℕ) → i < k → member i (2 ^ k - 1) ≡ 1
+unfolding member
+member-all zero i lt = absurd (omega arith)
+member-all (suc k) zero lt =
+    let p : 2 ^ suc k ≡ 2 * 2 ^ k = pow-succ' 2 k in
+    let q : 0 < 2 ^ k = pow-pos k in
+    omega arith
+member-all (suc k) (suc i) lt =
+    let p : 2 ^ suc k ≡ 2 * 2 ^ k = pow-succ' 2 k in
+    let q : 0 < 2 ^ k = pow-pos k in
+    let e : (2 ^ suc k - 1) / 2 ≡ 2 ^ k - 1 = omega arith in
+    ap (member i) e ∙ member-all k i (omega arith)

@@ -1,0 +1,5 @@
+-- The definitions that the contracts cite.
+pub mod Levels
+pub mod Rounds
+pub mod Places
+pub mod Changes
