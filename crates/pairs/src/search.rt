@@ -88,7 +88,14 @@ fn spread(n: usize, destination: &[u8], next: &mut [u8], new: u64, j: usize, tod
 }
 
 // A source with no destination from which a destination with no source can be reached, or n. The way is left in `next`.
-pub fn search(n: usize, may: &[u64], destination: &[u8], next: &mut [u8], sources: u64, destinations: u64) -> usize
+pub fn search(
+    n: usize,
+    may: &[u64],
+    destination: &[u8],
+    next: &mut [u8],
+    sources: u64,
+    destinations: u64,
+) -> usize
     requires { ⌜ CanSearch n (now may) (now destination) (now next) sources destinations ⌝ }
     ensures { λ r. ⌜ Searched n (now (may .entry)) (now (destination .entry)) (now (next .exit)) destinations r ⌝ }
 {

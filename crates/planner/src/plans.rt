@@ -2,8 +2,8 @@
 use crate::answers::Answer;
 use crate::kept::keep;
 use crate::kept::total;
-use slots::placing::place;
 use slots::changes::reconfigurations;
+use slots::placing::place;
 use star::lines::first_above;
 use star::refusals::Refusal;
 ghost use mathlib.Core.Path.{_≡_};

@@ -67,10 +67,10 @@ module _ {n r : ℕ} {padded0 due0 may0 source0 destination0 schedule0 padded du
   level-two lt m e =
       by-eq level 1
       (λ one. absurd (never-stuck padded (r - t) (m .paired .source-most) (omega arith)
-          (λ i hi. omega (arith, now .lines i (omega arith), row-sum n padded i hi))
-          (λ j hj. omega (arith, now .lines (n + j) (omega arith), column-sum n padded j))
-          (λ i j hi hj pos. g .right .all j hj .in' i hi (omega arith))
-          (m .none e)))
+      (λ i hi. omega (arith, now .lines i (omega arith), row-sum n padded i hi))
+      (λ j hj. omega (arith, now .lines (n + j) (omega arith), column-sum n padded j))
+      (λ i j hi hj pos. g .right .all j hj .in' i hi (omega arith))
+      (m .none e)))
       (λ ne. omega (arith, g .some))
 
   module _ {source' destination' : List ℕ} (lt : t < r) (es : length source' ≡ length source) (p : Paired n may source' destination') (f : Full n source') where

@@ -85,7 +85,14 @@ pub fn allow(n: usize, padded: &[u16], level: u32, may: &mut [u64])
 }
 
 // The same after a pairing was held: its pairs that fell below the level are allowed no more, and paired no more.
-pub fn renew(n: usize, padded: &[u16], level: u32, may: &mut [u64], source: &mut [u8], destination: &mut [u8])
+pub fn renew(
+    n: usize,
+    padded: &[u16],
+    level: u32,
+    may: &mut [u64],
+    source: &mut [u8],
+    destination: &mut [u8],
+)
     requires { ⌜ CanRenew n (now padded) level (now may) (now source) (now destination) ⌝ }
     ensures { λ _. ⌜ Renewed n (now (padded .entry)) level (now (may .exit)) (now (source .exit)) (now (destination .exit)) ⌝ }
 {
