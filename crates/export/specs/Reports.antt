@@ -1,8 +1,11 @@
--- An exported entry reports a verdict as its number and its place.
+-- An exported entry reports its answer as numbers.
 use Prim.Native.Nat.{ℕ}
 use mathlib.Core.Path.{_≡_}
+use mathlib.Core.List.{List, [], _∷_}
 use Rattle.star.specs.declared.refusals.Verdict.{Verdict}
 use Rattle.star.specs.Refusals.{verdictNumber, verdictPlace}
+use Rattle.planner.specs.declared.answers.Answer.{Answer}
+use Rattle.planner.specs.Plans.{verdictOf, keptTotal, refusedTotal, changes}
 
 -- the number and the place are those of a verdict with which the entry keeps its promise
 pub record Reported (promise : Verdict → Type 0) (number place : ℕ) : Type 0 where
@@ -10,3 +13,10 @@ pub record Reported (promise : Verdict → Type 0) (number place : ℕ) : Type 0
   pub kept : promise verdict
   pub its-number : number ≡ verdictNumber verdict
   pub its-place : place ≡ verdictPlace verdict
+
+-- the number, and in the report the place, the two totals and the reconfigurations, are those of an answer with which the entry keeps its promise
+pub record ReportedPlan (promise : Answer → Type 0) (number : ℕ) (report : List ℕ) : Type 0 where
+  pub answer : Answer
+  pub kept : promise answer
+  pub its-number : number ≡ verdictNumber (verdictOf answer)
+  pub its-report : report ≡ verdictPlace (verdictOf answer) ∷ keptTotal answer ∷ refusedTotal answer ∷ changes answer ∷ []
