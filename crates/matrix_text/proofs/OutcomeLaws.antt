@@ -12,6 +12,7 @@ use lib.ListN.{length, getD, take, drop, length-append, length-drop}
 use lib.Seq.{getD-take, take-all, take-add, drop-at, length-take-le}
 use borrow.Author.Tests.{ltb-false, eqb-true, lt-ltb, le-ltb, le-leb, lt-leb}
 use Rattle.sums.specs.Tables.{written}
+use Rattle.sums.proofs.Cases.{by-test}
 use Rattle.sums.proofs.Tables.{mul-small}
 use Rattle.star.specs.declared.refusals.Refusal.{Refusal}
 use Rattle.star.specs.declared.refusals.Refusal.the-variants.{Nodes, Slots, Rule, DemandShort, TableShort, DemandAbove}
@@ -19,7 +20,6 @@ use Rattle.star.specs.declared.refusals.Verdict.the-variants as verdict
 use Rattle.star.specs.Refusals.{refuse, nodesOut, slotsOut, ruleOut, short, someCell, firstAbove, refusalNumber, refusalPlace}
 use Rattle.star.specs.Lines.{total, wholeFrame}
 use Rattle.star.proofs.RefusalLaws.{fires, passes, neither}
-use Rattle.least.proofs.Sums.{by-test}
 use Rattle.planner.specs.declared.answers.Answer.{Answer}
 use Rattle.planner.specs.declared.answers.Answer.the-variants.{Planned, Refused}
 use Rattle.planner.specs.Plans.{verdictOf, keptTotal, refusedTotal, changes, planVerdict, Plan, PlanResult}

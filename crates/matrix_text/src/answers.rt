@@ -74,7 +74,7 @@ fn is_whole(nodes: u32, demands: usize) -> bool
 }
 
 // The smaller of two numbers.
-fn least(a: usize, b: usize) -> usize
+fn smaller(a: usize, b: usize) -> usize
     ensures { λ r. ⌜ r ≡ min a b ⌝ }
 {
     if a < b { a } else { b }
@@ -92,7 +92,7 @@ fn put_judged(out: &mut [u8], table: &[u32], count: usize) -> usize
     let nodes = table[0];
     let slots = table[1];
     let rule = table[2];
-    let end = least(count, 4099);
+    let end = smaller(count, 4099);
     let mut kept = [0u32; 4096];
     let mut withdrawn = [0u32; 4096];
     let mut schedule = [0u8; 65536];

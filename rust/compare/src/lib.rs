@@ -1,5 +1,8 @@
-//! What the comparisons share: lent tables whose surroundings are watched, and answers that both
-//! programs give in their own words.
+//! What the comparisons share: lent tables whose surroundings are watched, answers that both
+//! programs give in their own words, and stars for the inner layers.
+
+use second::inputs::{FAMILIES, Random};
+use second::matrix::Matrix;
 
 /// A table lent from the middle of a longer one, so that a write outside it shows.
 #[derive(Clone, Debug, PartialEq, Eq)]
@@ -26,6 +29,14 @@ impl<T: Copy> Lent<T> {
     }
 }
 
+impl<T: PartialEq> Lent<T> {
+    /// Whether all but the first `count` cells are as they were, those around the table included.
+    pub fn changed_only(&self, count: usize, before: &Lent<T>) -> bool {
+        let rest = MARGIN + count..;
+        self.all[..MARGIN] == before.all[..MARGIN] && self.all[rest.clone()] == before.all[rest]
+    }
+}
+
 /// A refusal's number and place, both 0 for an accepted call.
 pub type Answer = (u32, u32);
 
@@ -35,4 +46,87 @@ pub fn by_second<T>(answer: Result<T, second::refusal::Refusal>) -> Answer {
 
 pub fn by_library<T>(answer: Result<T, gyodaebeun::Refusal>) -> Answer {
     answer.map_or_else(|refusal| (refusal.number(), refusal.place()), |_| (0, 0))
+}
+
+/// A demand, and the capacity of each line, in tables with extra cells out of every range.
+#[derive(Clone, Debug)]
+pub struct Star {
+    pub n: usize,
+    pub slots: u32,
+    pub capacity: Vec<u32>,
+    pub demand: Vec<u32>,
+}
+
+impl Star {
+    pub fn new(slots: u32, capacity: &[u32], demand: &[u32]) -> Star {
+        let n = capacity.len() / 2;
+        assert_eq!(demand.len(), n * n);
+        Star {
+            n,
+            slots,
+            capacity: [capacity, &[1_025, u32::MAX]].concat(),
+            demand: [demand, &[65_536, u32::MAX]].concat(),
+        }
+    }
+
+    /// Every line's capacity is L.
+    pub fn even(n: usize, slots: u32, demand: &[u32]) -> Star {
+        Star::new(slots, &vec![slots; 2 * n], demand)
+    }
+
+    /// The demand as the second program takes it.
+    pub fn asked(&self) -> Matrix {
+        Matrix::read(self.n, &self.demand)
+    }
+
+    /// The capacities as the second program takes them.
+    pub fn limits(&self) -> Vec<i64> {
+        wide(&self.capacity[..2 * self.n])
+    }
+}
+
+/// Stars of every family in turn. In one round every line's capacity is L, in the next each line's
+/// is from 0 to L.
+pub fn stars(random: &mut Random, rounds: usize) -> Vec<Star> {
+    let mut stars = Vec::new();
+    for round in 0..rounds {
+        for (_, family) in FAMILIES {
+            let (n, slots) = (random.nodes(), random.slots());
+            let demand = family(random, n, slots);
+            let lowest = if round % 2 == 0 { slots } else { 0 };
+            let capacity = (0..2 * n).map(|_| lowest + random.up_to(slots - lowest));
+            stars.push(Star::new(slots, &capacity.collect::<Vec<_>>(), &demand));
+        }
+    }
+    stars
+}
+
+/// Stars of 64 nodes and 1,024 slots, one of every family.
+pub fn largest_stars(random: &mut Random) -> Vec<Star> {
+    let demands = FAMILIES.map(|(_, family)| family(random, 64, 1_024));
+    let star = |demand: Vec<u32>| Star::even(64, 1_024, &demand);
+    demands.into_iter().map(star).collect()
+}
+
+/// Every list of `length` numbers below `end`.
+pub fn lists(length: usize, end: u32) -> impl Iterator<Item = Vec<u32>> {
+    (0..end.pow(length as u32)).map(move |code| {
+        let digit = |place| code / end.pow(place) % end;
+        (0..length as u32).map(digit).collect()
+    })
+}
+
+pub fn wide(table: &[u32]) -> Vec<i64> {
+    table.iter().map(|&v| i64::from(v)).collect()
+}
+
+/// What no matrix below `bound` can exceed whose line sums are at most `limit`, whichever lines are
+/// marked: the limits of the rows without a mark and of the columns with one, and the bounds where
+/// a row with a mark meets a column without.
+pub fn cut(bound: &Matrix, limit: &[i64], marks: &[u8]) -> i64 {
+    let n = bound.nodes();
+    let marked = |line: usize| marks[line] != 0;
+    let lines = bound.lines().filter(|&line| marked(line) == (line >= n));
+    let pairs = bound.pairs().filter(|&(i, j)| marked(i) && !marked(n + j));
+    lines.map(|line| limit[line]).sum::<i64>() + pairs.map(|pair| bound.at(pair)).sum::<i64>()
 }

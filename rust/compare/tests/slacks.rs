@@ -3,7 +3,7 @@
 
 use compare::{Answer, Lent, by_library, by_second};
 use gyodaebeun::{Refusal, raw};
-use second::inputs::{FAMILIES, Random, choices};
+use second::inputs::{Random, choices, family};
 use second::plan;
 
 /// What the entry is called with; `slacks` is the table before the call.
@@ -273,11 +273,10 @@ fn extra_cells_are_not_read() {
 #[test]
 fn a_full_line_has_no_slack() {
     let mut random = Random::announced();
-    let full = FAMILIES.iter().find(|(name, _)| *name == "one line full");
-    let (_, family) = full.expect("there is such a family");
+    let full = family("one line full");
     for _ in 0..200 {
         let (n, slots) = (random.nodes(), random.slots());
-        let demand = family(&mut random, n, slots);
+        let demand = full(&mut random, n, slots);
         let slacks = accepted(&Input::exact(n as u32, slots, demand));
         assert!(slacks.contains(&0));
         assert!(slacks.iter().all(|&slack| slack >= 0));

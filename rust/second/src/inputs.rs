@@ -23,11 +23,23 @@ impl Random {
         Random(seed)
     }
 
+    pub fn seeded(seed: u64) -> Random {
+        Random(seed)
+    }
+
     pub fn word(&mut self) -> u64 {
         self.0 = self.0.wrapping_add(0x9e37_79b9_7f4a_7c15);
         let mixed = (self.0 ^ (self.0 >> 30)).wrapping_mul(0xbf58_476d_1ce4_e5b9);
         let mixed = (mixed ^ (mixed >> 27)).wrapping_mul(0x94d0_49bb_1331_11eb);
         mixed ^ (mixed >> 31)
+    }
+
+    pub fn words(&mut self, count: usize) -> Vec<u32> {
+        (0..count).map(|_| self.word() as u32).collect()
+    }
+
+    pub fn bytes(&mut self, count: usize) -> Vec<u8> {
+        (0..count).map(|_| self.word() as u8).collect()
     }
 
     /// From 0 up to but not including `end`.
@@ -75,10 +87,10 @@ impl Random {
     }
 }
 
-type Family = fn(&mut Random, usize, u32) -> Vec<u32>;
+/// Takes N and L and gives N×N demands.
+pub type Family = fn(&mut Random, usize, u32) -> Vec<u32>;
 
-/// Each takes N and L and gives N×N demands.
-pub const FAMILIES: [(&str, Family); 12] = [
+pub const FAMILIES: [(&str, Family); 17] = [
     ("zero", |_, n, _| cells(n, |_, _| 0)),
     ("constant", |random, n, slots| {
         let v = random.up_to(share(n, slots));
@@ -86,6 +98,12 @@ pub const FAMILIES: [(&str, Family); 12] = [
     }),
     ("uniform", |random, n, slots| {
         cells(n, |_, _| random.up_to(share(n, slots)))
+    }),
+    ("half load", |random, n, slots| {
+        cells(n, |_, _| random.up_to(share(n, slots) / 2))
+    }),
+    ("double load", |random, n, slots| {
+        cells(n, |_, _| random.up_to(2 * share(n, slots)))
     }),
     ("sparse", |random, n, slots| {
         let rarity = 2 + random.below(n);
@@ -120,15 +138,10 @@ pub const FAMILIES: [(&str, Family); 12] = [
             random.pick(&[0, 1, limits::DEMAND - 1, limits::DEMAND])
         })
     }),
-    ("permutations", |random, n, slots| {
-        let mut demand = vec![0; n * n];
-        let beyond = random.up_to(2);
-        for _ in 0..slots + beyond {
-            for (i, j) in random.permutation(n).into_iter().enumerate() {
-                demand[i * n + j] += 1;
-            }
-        }
-        demand
+    ("full", |random, n, slots| permutations(random, n, slots)),
+    ("just over full", |random, n, slots| {
+        let beyond = 1 + random.up_to(1);
+        permutations(random, n, slots + beyond)
     }),
     ("banded", |random, n, slots| {
         let width = 1 + random.below(3);
@@ -164,7 +177,71 @@ pub const FAMILIES: [(&str, Family); 12] = [
             random.up_to((1 << bits) - 1)
         })
     }),
+    ("staircase", staircase),
+    ("chain", chain),
 ];
+
+/// The family of this name.
+pub fn family(name: &str) -> Family {
+    let named = FAMILIES.iter().find(|family| family.0 == name);
+    named.expect("there is such a family").1
+}
+
+/// As many permutations, added up: every line asks for `count`.
+fn permutations(random: &mut Random, n: usize, count: u32) -> Vec<u32> {
+    let mut demand = vec![0; n * n];
+    for _ in 0..count {
+        for (i, j) in random.permutation(n).into_iter().enumerate() {
+            demand[i * n + j] += 1;
+        }
+    }
+    demand
+}
+
+/// Half of the rows and half of the columns have the same excess, and pair (i,j) asks where i+j is
+/// below N/2. Each row can be withdrawn from at the last of its columns; who begins at the first
+/// column leaves nothing to the lower rows. The other lines do not overflow.
+fn staircase(random: &mut Random, n: usize, slots: u32) -> Vec<u32> {
+    let half = n / 2;
+    let excess = 1 + random.up_to(slots / n as u32);
+    let mut demand = cells(n, |i, j| {
+        let inside = i + j < half;
+        if inside {
+            excess + random.up_to(excess)
+        } else {
+            0
+        }
+    });
+    for t in 0..half {
+        let row: u32 = (0..half).map(|j| demand[t * n + j]).sum();
+        let column: u32 = (0..half).map(|i| demand[i * n + t]).sum();
+        demand[t * n + half + t] = (slots + excess).saturating_sub(row);
+        demand[(half + t) * n + t] = (slots + excess).saturating_sub(column);
+    }
+    demand
+}
+
+/// All lines but the last row and column have the same excess. It can be withdrawn from pair (i,i)
+/// or from pair (i,i+1), except that the last such row has only column 0: who withdraws from the
+/// pairs (i,i) must take back all of it, one after the other.
+fn chain(random: &mut Random, n: usize, slots: u32) -> Vec<u32> {
+    let first = 1 + random.up_to(slots - 1);
+    let excess = 1 + random.up_to(first - 1);
+    let second = slots + excess - first;
+    if n == 1 {
+        return vec![slots + excess];
+    }
+    let mut demand = vec![0; n * n];
+    let mut ask = |i, j, v| demand[i * n + j] = v;
+    for i in 0..n - 2 {
+        ask(i, i, first);
+        ask(i, i + 1, second);
+    }
+    ask(n - 2, 0, second);
+    ask(n - 2, n - 1, first);
+    ask(n - 1, n - 2, first);
+    demand
+}
 
 fn cells(n: usize, mut cell: impl FnMut(usize, usize) -> u32) -> Vec<u32> {
     let pairs = (0..n).flat_map(|i| (0..n).map(move |j| (i, j)));

@@ -72,7 +72,8 @@ fn shares(asked: &[i64], capacity: i64) -> Vec<i64> {
     shares
 }
 
-fn excesses(demand: &Matrix, capacity: &[i64]) -> Vec<i64> {
+/// The excess of each line.
+pub fn excesses(demand: &Matrix, capacity: &[i64]) -> Vec<i64> {
     let excess = |line| demand.excess(capacity, line);
     demand.lines().map(excess).collect()
 }

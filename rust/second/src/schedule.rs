@@ -39,6 +39,18 @@ pub fn reconfigurations(n: usize, schedule: &[u8]) -> usize {
     settings.windows(2).filter(|two| two[0] != two[1]).count()
 }
 
+/// What no schedule of these slots stays below: a line takes turns among its pairs that get slots
+/// and, unless it is full, idle.
+pub fn fewest_reconfigurations(kept: &Matrix, slots: usize) -> usize {
+    let turns = |line| {
+        let pairs = kept.line(line).filter(|&pair| kept.at(pair) > 0).count();
+        let idle = kept.line_sum(line) < slots as i64;
+        pairs + usize::from(idle)
+    };
+    let most = kept.lines().map(turns).max();
+    most.map_or(0, |turns| turns - 1)
+}
+
 /// A schedule that gives each pair exactly its kept slots, entered one by one.
 pub fn place(kept: &Matrix, slots: usize) -> Vec<u8> {
     let mut frame = Frame::idle(kept.nodes(), slots);

@@ -2,7 +2,7 @@
 
 use crate::notation::{Demand, planned, tables};
 use second::fair;
-use second::inputs::{FAMILIES, Random};
+use second::inputs::{FAMILIES, Random, family};
 use second::judge;
 use second::least;
 use second::limits::{FAIR, LEAST};
@@ -81,6 +81,40 @@ fn less_withdrawn_is_not_greatest() {
         assert!(!least::is_greatest(&demand, &capacity, &a));
         tried += 1;
     }
+}
+
+/// Who withdraws pair by pair and never takes back finds less in these two families.
+#[test]
+fn staircases_and_chains_mislead_a_greedy_withdrawal() {
+    let mut random = Random::announced();
+    let mut misled = 0;
+    for _ in 0..200 {
+        for name in ["staircase", "chain"] {
+            let (n, slots) = (8 + random.below(8), 8 + random.slots().min(1_016));
+            let demand = Matrix::read(n, &family(name)(&mut random, n, slots));
+            let capacity = full_capacity(n, slots as usize);
+            let greatest = least::withdrawn(&demand, &capacity).total();
+            let greedy = greedy_withdrawal(&demand, &capacity);
+            assert!(greedy <= greatest);
+            misled += usize::from(greedy < greatest);
+        }
+    }
+    println!("misled {misled} times in 400");
+    assert!(misled > 300);
+}
+
+fn greedy_withdrawal(demand: &Matrix, capacity: &[i64]) -> i64 {
+    let n = demand.nodes();
+    let excess = demand.lines().map(|line| demand.excess(capacity, line));
+    let mut room: Vec<i64> = excess.collect();
+    let mut total = 0;
+    for (i, j) in demand.pairs() {
+        let taken = demand.at((i, j)).min(room[i]).min(room[n + j]);
+        room[i] -= taken;
+        room[n + j] -= taken;
+        total += taken;
+    }
+    total
 }
 
 #[test]

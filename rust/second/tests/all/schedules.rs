@@ -1,7 +1,9 @@
 //! Schedules read byte by byte.
 
 use crate::notation::matrix;
-use second::schedule::{IDLE, counts, is_conflict_free, reconfigurations, refused};
+use second::schedule::{
+    IDLE, counts, fewest_reconfigurations, is_conflict_free, reconfigurations, refused,
+};
 
 const I: u8 = IDLE;
 
@@ -34,4 +36,14 @@ fn a_change_at_any_destination_counts_once() {
     assert_eq!(reconfigurations(2, &[0, 1, 1, 0]), 1);
     assert_eq!(reconfigurations(2, &[I, I, 0, I, 0, 1, 0, 1, I, I]), 3);
     assert_eq!(reconfigurations(1, &[0, I, 0, I, I]), 3);
+}
+
+#[test]
+fn a_line_takes_its_turns() {
+    assert_eq!(fewest_reconfigurations(&matrix("0 0 / 0 0"), 3), 0);
+    assert_eq!(fewest_reconfigurations(&matrix("3 0 / 0 3"), 3), 0);
+    assert_eq!(fewest_reconfigurations(&matrix("3 0 / 0 2"), 3), 1);
+    assert_eq!(fewest_reconfigurations(&matrix("1 2 / 2 1"), 3), 1);
+    assert_eq!(fewest_reconfigurations(&matrix("1 0 / 1 0"), 3), 2);
+    assert_eq!(fewest_reconfigurations(&matrix("1 1 / 0 0"), 3), 2);
 }

@@ -27,8 +27,8 @@ shared-slice-read-slots c = search needs
 shared-slice-read-rule : tie.Need-shared-slice-read-rule
 shared-slice-read-rule c = search needs
 
-least-requires : tie.Need-least-requires
-least-requires c κs = search needs
+smaller-requires : tie.Need-smaller-requires
+smaller-requires c κs = search needs
 
 sub-plan : tie.Need-sub-plan
 sub-plan c = search needs
@@ -67,7 +67,7 @@ returns-2 : tie.Need-returns-2
 returns-2 c = let table = c .before .before .before .before .before .before .before .before .before .before .before .before .before .before .before .before .before .before .before .before .before .args .table .now in
     record {
       text = answerText (c .before .before .before .before .is-whole .result) (getD table 0 0) (getD table 1 0) (getD table 2 0) (c .before .before .before .before .before .before .before .before .before .plan .last .1 .1 .1 .1 .0) (c .before .before .before .before .before .before .before .before .before .plan .result);
-      prints = λ numbers s. rw (c .before .before .before .before .is-whole .ensures) (stored-prints table numbers (c .before .before .before .before .before .before .before .before .before .before .before .before .before .before .before .before .before .before .before .before .before .args .count) (c .before .before .before .before .before .before .before .before .before .before .before .before .before .before .least .result) (c .before .before .before .before .before .before .before .before .before .before .before .before .before .before .before .before .before .before .before .before .before .pre .1) (c .before .before .before .before .before .before .before .before .before .before .before .before .before .before .before .before .before .before .if1 .left) (c .before .before .before .before .before .before .before .before .before .before .before .before .before .before .least .ensures) s (c .before .before .before .before .before .before .before .before .before .plan .ensures) refl refl refl (length-replicate {A = ℕ} 4096 0) (length-replicate {A = ℕ} 4096 0) (length-replicate {A = ℕ} 65536 0));
+      prints = λ numbers s. rw (c .before .before .before .before .is-whole .ensures) (stored-prints table numbers (c .before .before .before .before .before .before .before .before .before .before .before .before .before .before .before .before .before .before .before .before .before .args .count) (c .before .before .before .before .before .before .before .before .before .before .before .before .before .before .smaller .result) (c .before .before .before .before .before .before .before .before .before .before .before .before .before .before .before .before .before .before .before .before .before .pre .1) (c .before .before .before .before .before .before .before .before .before .before .before .before .before .before .before .before .before .before .if1 .left) (c .before .before .before .before .before .before .before .before .before .before .before .before .before .before .smaller .ensures) s (c .before .before .before .before .before .before .before .before .before .plan .ensures) refl refl refl (length-replicate {A = ℕ} 4096 0) (length-replicate {A = ℕ} 4096 0) (length-replicate {A = ℕ} 65536 0));
       wrote = c .before .before .put-answer .ensures;
     }
 
@@ -81,7 +81,7 @@ put-judged-spec =
     shared-slice-read-nodes
     shared-slice-read-slots
     shared-slice-read-rule
-    least-requires
+    smaller-requires
     sub-plan
     part-plan-start
     part-plan-end

@@ -1,0 +1,5 @@
+//! Links the archive of the inner layers.
+
+fn main() {
+    archive::link("lab");
+}

@@ -1,0 +1,65 @@
+//! The C interface of the archive.
+
+unsafe extern "C" {
+    pub fn lab_fair_cut(
+        n: usize,
+        capacity: *const u32,
+        capacity_length: usize,
+        demand: *const u32,
+        demand_length: usize,
+        kept: *mut u32,
+        kept_length: usize,
+    );
+
+    pub fn lab_largest(
+        n: usize,
+        bound: *const u32,
+        bound_length: usize,
+        limit: *const u32,
+        limit_length: usize,
+        a: *mut u32,
+        a_length: usize,
+        marks: *mut u8,
+        marks_length: usize,
+    );
+
+    pub fn lab_withdraw(
+        n: usize,
+        capacity: *const u32,
+        capacity_length: usize,
+        demand: *const u32,
+        demand_length: usize,
+        withdrawn: *mut u32,
+        withdrawn_length: usize,
+        marks: *mut u8,
+        marks_length: usize,
+    );
+
+    pub fn lab_keep(
+        n: usize,
+        capacity: *const u32,
+        capacity_length: usize,
+        demand: *const u32,
+        demand_length: usize,
+        withdrawn: *const u32,
+        withdrawn_length: usize,
+        kept: *mut u32,
+        kept_length: usize,
+    );
+
+    pub fn lab_place(
+        n: usize,
+        l: usize,
+        kept: *const u32,
+        kept_length: usize,
+        schedule: *mut u8,
+        schedule_length: usize,
+    );
+
+    pub fn lab_reconfigurations(
+        n: usize,
+        l: usize,
+        schedule: *const u8,
+        schedule_length: usize,
+    ) -> u32;
+}
