@@ -13,11 +13,7 @@ pub fn free(n: usize, x: &[u8]) -> u64
     let mut s = nodes::none();
     let mut k = 0;
     while k < n {
-        if lists::byte(x, k) < n {
-            k += 1;
-            continue;
-        }
-        s = nodes::with(s, k);
+        s = nodes::with_where(s, k, lists::byte(x, k) >= n);
         k += 1;
     }
     s

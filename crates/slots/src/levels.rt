@@ -62,11 +62,7 @@ fn heard_at(n: usize, padded: &[u16], level: u32, j: usize) -> u64
     let mut s = nodes::none();
     let mut i = 0;
     while i < n {
-        if tables::get(n, padded, i, j) < level {
-            i += 1;
-            continue;
-        }
-        s = nodes::with(s, i);
+        s = nodes::with_where(s, i, tables::get(n, padded, i, j) >= level);
         i += 1;
     }
     s
