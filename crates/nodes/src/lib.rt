@@ -1,6 +1,6 @@
 // A set of up to 64 nodes as one number: node i is in it where binary digit i is 1. The only bit arithmetic of the planner;
 // every contract speaks of members alone.
-ghost use Prim.Native.Nat.{ℕ, _<_};
+ghost use Prim.Native.Nat.{_<_};
 ghost use Rattle.nodes.specs.Sets.{None, All, Has, With, WithWhere, Without, Both, Minus, First};
 
 // The set of no node.

@@ -8,7 +8,7 @@ use native.Mathlib.Nat.{mul-le-mul-left}
 use lib.ListN.{getD}
 use Rattle.sums.specs.Sums.{sumTo, hit}
 use Rattle.sums.specs.Tables.{cell}
-use Rattle.sums.proofs.Sums.{sum-ext, sum-mono, sum-most, sum-swap, sum-scale, sum-pick, sum-hit, sum-tight, sum-update, sum-zero, sum-all-zero, sum-at, hit-same, hit-other}
+use Rattle.sums.proofs.Sums.{sum-ext, sum-mono, sum-swap, sum-scale, sum-pick, sum-hit, sum-tight, sum-all-zero, hit-same, hit-other}
 use Rattle.sums.proofs.Cases.{by-eq, by-lt}
 use Rattle.pairs.specs.Pairs.{allowed, taken, Paired, Full, Stuck}
 
@@ -29,7 +29,7 @@ by-rows m n w bound =
     sum-ext n (λ j. w (m j)) (λ j. sumTo (suc n) (λ a. hit (m j) a * w a)) (λ j hj. sym (sum-pick (suc n) (m j) w (omega (arith, bound j hj))))
     ∙ sum-swap n (suc n) (λ j a. hit (m j) a * w a)
     ∙ sum-ext (suc n) (λ a. sumTo n (λ j. hit (m j) a * w a)) (λ a. w a * sumTo n (λ j. hit (m j) a))
-      (λ a ha. sum-ext n (λ j. hit (m j) a * w a) (λ j. w a * hit (m j) a) (λ j hj. omega arith) ∙ sum-scale n (w a) (λ j. hit (m j) a))
+    (λ a ha. sum-ext n (λ j. hit (m j) a * w a) (λ j. w a * hit (m j) a) (λ j hj. omega arith) ∙ sum-scale n (w a) (λ j. hit (m j) a))
 
 -- w marks rows, d columns, g is a table whose marked columns have their weight in marked rows
 module _ (n S : ℕ) (w d : ℕ → ℕ) (g : ℕ → ℕ → ℕ)
@@ -58,8 +58,8 @@ module _ {n : ℕ} {may source : List ℕ} (v : List ℕ) (S : ℕ) (bound : (j 
   more-columns =
       let each : sumTo n w ≤ sumTo n (λ a. w a * taken n source a) =
       sum-mono n w (λ a. w a * taken n source a) (λ a ha. by-eq (k .mark a) 0
-          (λ e. omega (arith, ap sign e))
-          (λ ne. let one : w a ≡ 1 = sign-pos (k .mark a) (omega arith) in rw one (omega (arith, k .paired a ha (omega arith))))) in
+      (λ e. omega (arith, ap sign e))
+      (λ ne. let one : w a ≡ 1 = sign-pos (k .mark a) (omega arith) in rw one (omega (arith, k .paired a ha (omega arith))))) in
       let last : w n ≡ 1 = ap sign (k .root) in
       let free : w n * taken n source n ≡ taken n source n = rw last (omega arith) in
       omega (arith, each, free, k .free, by-rows (λ j. getD source j 0) n w bound)
@@ -100,10 +100,10 @@ module _ {n : ℕ} {may source destination : List ℕ} (p : Paired n may source 
   taken-once i hi =
       let each : sumTo n (λ j. hit (getD source j 0) i) ≤ sumTo n (λ j. hit (getD destination i 0) j) =
       sum-mono n (λ j. hit (getD source j 0) i) (λ j. hit (getD destination i 0) j) (λ j hj. by-eq (getD source j 0) i
-          (λ e.
-          let q : getD destination i 0 ≡ j = ap (λ (x : ℕ). getD destination x 0) (sym e) ∙ p .back j hj (omega arith) in
-          omega (arith, hit-same e, hit-same q))
-          (λ ne. omega (arith, hit-other ne))) in
+      (λ e.
+      let q : getD destination i 0 ≡ j = ap (λ (x : ℕ). getD destination x 0) (sym e) ∙ p .back j hj (omega arith) in
+      omega (arith, hit-same e, hit-same q))
+      (λ ne. omega (arith, hit-other ne))) in
       omega (arith, each, sum-hit-most n (getD destination i 0))
 
   pub taken-all : Full n source → (i : ℕ) → i < n → taken n source i ≡ 1

@@ -13,7 +13,7 @@ use Rattle.nodes.specs.Sets.{member, size, None, With, WithWhere, Without, Both
 use Rattle.nodes.proofs.Members.{member-lt}
 use Rattle.nodes.proofs.Sizes.{size-with, size-without}
 use Rattle.pairs.specs.Pairs.{allowed}
-use Rattle.pairs.specs.Ways.{Unpaired, Choice, Hears, Ready, Settled, Peeked, From, Spread}
+use Rattle.pairs.specs.Ways.{Choice, Hears, From, Spread}
 
 -- ---- the nodes with no partner: those below k are looked at
 pub record Freeing (n : ℕ) (x : List ℕ) (s k : ℕ) : Type 0 where

@@ -1,13 +1,19 @@
 // Pairing as many as can be.
-use crate::search;
 use crate::flip;
+use crate::search;
 use arrays::lists;
 ghost use Prim.Native.Nat.{_≤_};
 ghost use lib.ListN.{length};
 ghost use Rattle.pairs.specs.Pairs.{CanMatch, Matched};
 
 // Pairs all destinations, with a list to work in for the ways that are found.
-fn match_with(n: usize, may: &[u64], source: &mut [u8], destination: &mut [u8], next: &mut [u8]) -> bool
+fn match_with(
+    n: usize,
+    may: &[u64],
+    source: &mut [u8],
+    destination: &mut [u8],
+    next: &mut [u8],
+) -> bool
     requires { ⌜ CanMatch n (now may) (now source) (now destination) ⌝ }
     requires { ⌜ n ≤ length (now next) ⌝ }
     ensures { λ r. ⌜ Matched n (now (may .entry)) (now (source .exit)) (now (destination .exit)) r ⌝ }

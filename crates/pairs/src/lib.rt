@@ -2,5 +2,5 @@
 // `may` has for each destination the set of the sources that it may hear, `source` for each destination its source, and `destination`
 // for each source its destination, or n for none.
 pub mod all;
-mod search;
 mod flip;
+mod search;

@@ -1,7 +1,7 @@
 // The search for a way from a source with no destination to a destination with no source. It goes backwards, from the destinations:
 // what they may hear can move there, and so the destinations that those sources leave can be reached.
 use arrays::lists;
-ghost use Prim.Native.Nat.{ℕ, _<_, _≤_};
+ghost use Prim.Native.Nat.{_<_, _≤_};
 ghost use lib.ListN.{length};
 ghost use Rattle.pairs.specs.Ways.{Unpaired, Choice, Ready, Settled, Peeked, Spread, CanSearch, Searched};
 
@@ -84,7 +84,14 @@ fn spread(n: usize, destination: &[u8], next: &mut [u8], new: u64, j: usize, tod
 }
 
 // A source with no destination from which a destination with no source can be reached, or n. The way is left in `next`.
-pub fn search(n: usize, may: &[u64], destination: &[u8], next: &mut [u8], sources: u64, destinations: u64) -> usize
+pub fn search(
+    n: usize,
+    may: &[u64],
+    destination: &[u8],
+    next: &mut [u8],
+    sources: u64,
+    destinations: u64,
+) -> usize
     requires { ⌜ CanSearch n (now may) (now destination) (now next) sources destinations ⌝ }
     ensures { λ r. ⌜ Searched n (now (may .entry)) (now (destination .entry)) (now (next .exit)) destinations r ⌝ }
 {

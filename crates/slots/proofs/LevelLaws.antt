@@ -10,7 +10,7 @@ use lib.Seq.{getD-set-same, getD-set-other}
 use Rattle.sums.specs.Sums.{hit}
 use Rattle.sums.specs.Tables.{cell}
 use Rattle.sums.proofs.Sums.{hit-other}
-use Rattle.sums.proofs.Cases.{by-eq, by-lt}
+use Rattle.sums.proofs.Cases.{by-eq}
 use Rattle.star.specs.Tables.{Square}
 use Rattle.nodes.specs.Sets.{member, None, WithWhere, Without}
 use Rattle.arrays.specs.Arrays.{Filled}

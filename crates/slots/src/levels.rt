@@ -1,8 +1,7 @@
 // The pairs that still get at least `level` slots. Any level from 1 on is right; a high one holds each pairing for long.
 use arrays::lists;
 use arrays::tables;
-ghost use mathlib.Core.Path.{_≡_};
-ghost use Prim.Native.Nat.{ℕ, _<_, _≤_};
+ghost use Prim.Native.Nat.{_<_, _≤_};
 ghost use lib.ListN.{length};
 ghost use Rattle.star.specs.Tables.{Square};
 ghost use Rattle.slots.specs.Levels.{HeardAt, Level, CanRenew, Renewed};
@@ -81,7 +80,14 @@ pub fn allow(n: usize, padded: &[u16], level: u32, may: &mut [u64])
 }
 
 // The same after a pairing was held: its pairs that fell below the level are allowed no more, and paired no more.
-pub fn renew(n: usize, padded: &[u16], level: u32, may: &mut [u64], source: &mut [u8], destination: &mut [u8])
+pub fn renew(
+    n: usize,
+    padded: &[u16],
+    level: u32,
+    may: &mut [u64],
+    source: &mut [u8],
+    destination: &mut [u8],
+)
     requires { ⌜ CanRenew n (now padded) level (now may) (now source) (now destination) ⌝ }
     ensures { λ _. ⌜ Renewed n (now (padded .entry)) level (now (may .exit)) (now (source .exit)) (now (destination .exit)) ⌝ }
 {

@@ -4,7 +4,7 @@
 // by a quarter, and at level 1 there always is one. Slots fill in order, so none is ever searched for; those after R are idle.
 //
 // Working memory: two tables of 4,096 16-bit numbers (16,384 bytes) and 1,088 bytes of lists, on the stack.
-mod levels;
 pub mod changes;
+mod levels;
 pub mod placing;
 mod rounds;

@@ -1,11 +1,17 @@
 // Placing a kept matrix.
 use crate::rounds;
-ghost use Prim.Native.Nat.{ℕ, _<_, _≤_};
 ghost use Rattle.star.specs.Tables.{Square};
 ghost use Rattle.slots.specs.Places.{CanPlace, Places};
 
 // Places the kept matrix, with two tables to work in.
-fn place_with(n: usize, l: usize, kept: &[u32], padded: &mut [u16], due: &mut [u16], schedule: &mut [u8])
+fn place_with(
+    n: usize,
+    l: usize,
+    kept: &[u32],
+    padded: &mut [u16],
+    due: &mut [u16],
+    schedule: &mut [u8],
+)
     requires { ⌜ CanPlace n l (now kept) (now schedule) ⌝ }
     requires { ⌜ (Square n (now padded)) × (Square n (now due)) ⌝ }
     ensures { λ _. ⌜ Places n l (now (kept .entry)) (now (schedule .entry)) (now (schedule .exit)) ⌝ }

@@ -1,11 +1,19 @@
 // Pairing and holding until all slots are written.
 use crate::levels;
 use arrays::lists;
-ghost use Prim.Native.Nat.{ℕ, _<_, _≤_};
 ghost use Rattle.slots.specs.Rounds.{CanRound, CanSettle, Rounded};
 
 // Writes the r slots, with lists to work in: what may be paired, and the pairs.
-fn rounds(n: usize, r: usize, padded: &mut [u16], due: &mut [u16], may: &mut [u64], source: &mut [u8], destination: &mut [u8], schedule: &mut [u8])
+fn rounds(
+    n: usize,
+    r: usize,
+    padded: &mut [u16],
+    due: &mut [u16],
+    may: &mut [u64],
+    source: &mut [u8],
+    destination: &mut [u8],
+    schedule: &mut [u8],
+)
     requires { ⌜ CanRound n r (now padded) (now due) (now may) (now source) (now destination) (now schedule) ⌝ }
     ensures { λ _. ⌜ Rounded n r (now (padded .entry)) (now (due .entry)) (now (schedule .entry)) (now (schedule .exit)) ⌝ }
 {
@@ -34,5 +42,14 @@ pub fn settle(n: usize, r: usize, padded: &mut [u16], due: &mut [u16], schedule:
     let mut destination = [0u8; 64];
     lists::fill(&mut source, n, n);
     lists::fill(&mut destination, n, n);
-    rounds(n, r, padded, due, &mut may, &mut source, &mut destination, schedule);
+    rounds(
+        n,
+        r,
+        padded,
+        due,
+        &mut may,
+        &mut source,
+        &mut destination,
+        schedule,
+    );
 }
