@@ -9,7 +9,13 @@ ghost use Rattle.export.specs.Reports.{Reported, ReportedPlan};
 
 // `slacks::slacks`; returns the number of the refusal, 0 where the call is accepted, and stores its place.
 #[no_mangle]
-pub extern "C" fn gyodaebeun_slacks(nodes: u32, slots: u32, demand: &[u32], table: &mut [i32], place: &mut u32) -> u32
+pub extern "C" fn gyodaebeun_slacks(
+    nodes: u32,
+    slots: u32,
+    demand: &[u32],
+    table: &mut [i32],
+    place: &mut u32,
+) -> u32
     ensures { λ r. ⌜ Reported (SlacksResult nodes slots (now (demand .entry)) (now (table .entry)) (now (table .exit))) r (now (place .exit)) ⌝ }
 {
     let v = slacks::slacks(nodes, slots, demand, table);

@@ -38,13 +38,13 @@ same-length-3 c = search needs
 
 returns : tie.Need-returns
 returns c = record {
-      answer = c .before .before .before .before .before .before .before .before .before .before .before .before .before .plan .result;
-      kept = c .before .before .before .before .before .before .before .before .before .before .before .before .before .plan .ensures;
-      its-number = c .number .ensures ∙ ap verdictNumber (c .before .before .before .before .before .before .verdict .ensures);
-      its-report =
-        ap₂ _∷_ (c .before .before .before .before .before .place .ensures ∙ ap verdictPlace (c .before .before .before .before .before .before .verdict .ensures))
-        (ap₂ _∷_ (c .before .before .before .before .kept-total .ensures) (ap₂ _∷_ (c .before .before .before .refused-total .ensures) (ap₂ _∷_ (c .before .before .reconfigured .ensures) refl)));
-    }
+  answer = c .before .before .before .before .before .before .before .before .before .before .before .before .before .plan .result;
+  kept = c .before .before .before .before .before .before .before .before .before .before .before .before .before .plan .ensures;
+  its-number = c .number .ensures ∙ ap verdictNumber (c .before .before .before .before .before .before .verdict .ensures);
+  its-report =
+      ap₂ _∷_ (c .before .before .before .before .before .place .ensures ∙ ap verdictPlace (c .before .before .before .before .before .before .verdict .ensures))
+      (ap₂ _∷_ (c .before .before .before .before .kept-total .ensures) (ap₂ _∷_ (c .before .before .before .refused-total .ensures) (ap₂ _∷_ (c .before .before .reconfigured .ensures) refl)));
+}
 
 pub gyodaebeun-plan-spec : {M : Type 1} → statement M
 gyodaebeun-plan-spec =
