@@ -12,7 +12,7 @@ use Rattle.sums.proofs.Cases.{by-eq, by-lt}
 use Rattle.star.specs.Lines.{lineSum}
 use Rattle.fair.specs.Fair.{Cutting, unmodifiedSum, numerator, exceeds, smaller, taken}
 use Rattle.fair.specs.Cuts.{Least}
-use Rattle.fair.proofs.Fractions.{fraction-trans}
+use Rattle.sums.proofs.Fractions.{fraction-trans}
 
 -- no line below k exceeds
 pub record Quiet (n : ℕ) (cap : List ℕ) (s : Cutting) (k : ℕ) : Type 0 where

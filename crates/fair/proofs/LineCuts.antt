@@ -19,8 +19,8 @@ use Rattle.sums.proofs.Tables.{square-cell}
 use Rattle.star.specs.Lines.{sourceOn, destinationOn, crossing, onLine, lineSum}
 use Rattle.star.proofs.LineLaws.{source-lt, destination-lt}
 use Rattle.fair.specs.Fair.{Cutting, modified, modifiedSum, unmodifiedSum, numerator, cutCell, cutLine}
-use Rattle.fair.proofs.Crossings.{pair-lines, crossing-once, Meet, Beside}
-use Rattle.fair.proofs.Fractions.{floor-none}
+use Rattle.star.proofs.CrossingLaws.{pair-lines, crossing-once, Meet, Beside}
+use Rattle.sums.proofs.Fractions.{floor-none}
 
 -- ---- a pair
 -- what a pair adds to the sum of the unmodified cells of its lines ..

@@ -18,10 +18,10 @@ use Rattle.star.specs.Lines.{sourceOn, destinationOn, crossing, onLine}
 use Rattle.star.proofs.LineLaws.{source-lt, destination-lt, on-line-most}
 use Rattle.fair.specs.Fair.{Cutting, modified, modifiedSum, unmodifiedSum, numerator, cutLine}
 use Rattle.fair.specs.Cuts.{cutting, CellCut, CanCutCell, CanCutLine, LineCut}
-use Rattle.fair.proofs.Crossings.{source-row, source-column, destination-row, destination-column, crossing-lt, crossing-other, crossing-once, Meet, Beside, two-lines}
-use Rattle.fair.proofs.Fractions.{floor-none, floors-most}
+use Rattle.star.proofs.CrossingLaws.{source-row, source-column, destination-row, destination-column, crossing-lt, crossing-other, crossing-once, Meet, Beside, two-lines}
+use Rattle.sums.proofs.Fractions.{floor-none, floors-most}
 use Rattle.fair.proofs.LineCuts.{loose, looseOn, fixedOn, cell-split, modified-on, unmodified-is, loose-most, value-on-cut, value-off-cut, own-unmodified, own-modified, crossed-unmodified, crossed-modified, beside-unmodified, beside-modified, on-own}
-use Rattle.fair.proofs.Stores.{set-else}
+use Rattle.sums.proofs.Tables.{set-else}
 use Rattle.fair.proofs.Steps.{over-proper, over-uncut, cut-sound}
 
 pub record Partway (n : ℕ) (s : Cutting) (a b : List ℕ) (ℓ p q : ℕ) (v' a' b' : List ℕ) (t sum : ℕ) : Type 0 where

@@ -1,51 +1,27 @@
 -- The tables after k steps hold the state of the definition after k steps, and its sums; what they begin with, and what they hold at the end. By the laws of one step. Assumes nothing.
-use Prim.Native.Nat.{ℕ, _+_, _*_, _/_, _%_, _≤_, _<_}
-use native.Mathlib.Nat.{div-add-mod'}
+use Prim.Native.Nat.{ℕ, _+_, _*_, _≤_, _<_}
 use native.Mathlib.Numerals.{add-one}
 use native.Mathlib.Omega.{arith}
 use mathlib.Core.Path.{_≡_, sym, ap, ap₂, _∙_}
 use mathlib.Core.List.{List}
 use lib.ListN.{length, getD, replicate, getD-replicate, length-replicate}
-use Rattle.sums.specs.Tables.{cell, tab, square}
+use Rattle.sums.specs.Tables.{cell, tab, square, written}
 use Rattle.sums.proofs.Sums.{sum-most}
-use Rattle.sums.proofs.Tables.{length-square, square-cell, square-ext, tab-ext, place-split}
+use Rattle.sums.proofs.Tables.{length-square, square-cell, square-same, tab-square}
+use Rattle.sums.proofs.Fills.{tab-whole}
 use Rattle.star.specs.Tables.{Demands}
 use Rattle.star.specs.Lines.{onLine, lineSum}
-use Rattle.star.proofs.LineLaws.{on-line-most}
+use Rattle.star.proofs.LineLaws.{on-line-most, demands-below}
 use Rattle.fair.specs.Fair.{taken, cutLine, step, steps, uncut, fairKept}
 use Rattle.fair.specs.Cuts.{cutting, Counted, Sound, Comparable, Next, CanCutLine, LineCut, CanCutAll, CanCutExactly, Summed}
 use Rattle.fair.proofs.LineCuts.{line-split}
 use Rattle.fair.proofs.Steps.{steps-sound, steps-below, steps-shrink, steps-still, step-cuts, taken-is-least, uncut-a, uncut-b}
 
 -- ---- tables of demands
--- a table of n * n cells is the square of its cells
-pub square-same : (n : ℕ) (d : List ℕ) → length d ≡ n * n → square n (cell n d) ≡ d
-square-same n d e = square-ext n (square n (cell n d)) d (length-square n (cell n d)) e (square-cell n (cell n d))
-
--- the first n * n cells of a table are the square of its cells
-pub tab-square : (n : ℕ) (d : List ℕ) → tab (n * n) (λ p. getD d p 0) ≡ square n (cell n d)
-unfolding square cell
-tab-square n d = tab-ext (n * n) _ _ (λ p h. ap (λ x. getD d x 0) (sym (div-add-mod' p n)))
-
 -- a line of demands is at most 64 × 65,535
 pub line-most : (n : ℕ) (d : List ℕ) (ℓ : ℕ) → n ≤ 64 → Demands n d → ℓ < 2 * n → lineSum n d ℓ ≤ 4194240
 unfolding lineSum
 line-most n d ℓ few h hl = omega (arith, sum-most n 65535 (onLine n d ℓ) (λ t ht. on-line-most n d ℓ t h hl ht))
-
--- matrices with no larger cell than the demands hold demands
-pub demands-below : (n : ℕ) (d e : List ℕ) → Demands n d → ((i j : ℕ) → i < n → j < n → cell n e i j ≤ cell n d i j) → Demands n e
-unfolding cell
-demands-below n d e h le = record {
-  most = λ p hp.
-      let q = place-split n p hp in
-      omega (
-        arith,
-        ap (λ x. getD e x 0) (q .1 .1),
-        ap (λ x. getD d x 0) (q .1 .1),
-        le (p / n) (p % n) (q .0) (q .1 .0),
-        h .most p hp,
-      );
-}
 
 -- ---- the steps
 pub record Stepped (n : ℕ) (cap d kept done a b : List ℕ) (k : ℕ) : Type 0 where
@@ -118,9 +94,10 @@ module _ (n : ℕ) (cap d done₀ a₀ b₀ : List ℕ) (h : CanCutAll n cap d d
     stepped-end e = ap (λ s. s .values) (S .state ∙ ap (steps n cap (uncut n d)) e)
 
 -- ---- the start and the end
-module _ (n : ℕ) (cap d kept done : List ℕ) (h : CanCutExactly n cap d kept done) {copied : List ℕ} (c : copied ≡ tab (length kept) (λ p. getD d p 0)) where
+module _ (n : ℕ) (cap d kept done : List ℕ) (h : CanCutExactly n cap d kept done) {copied : List ℕ} (c : copied ≡ written (n * n) (tab (n * n) (λ p. getD d p 0)) kept) where
   copied-square : copied ≡ square n (cell n d)
-  copied-square = c ∙ ap (λ m. tab m (λ p. getD d p 0)) (h .cells) ∙ tab-square n d
+  unfolding written
+  copied-square = tab-whole (λ p. getD d p 0) copied kept (n * n) (sym (h .cells)) c ∙ ap (λ m. tab m (λ p. getD d p 0)) (h .cells) ∙ tab-square n d
 
   copied-uncut : cutting copied done ≡ uncut n d
   unfolding uncut

@@ -15,14 +15,15 @@ use borrow.Author.Tests.{lt-ltb, le-ltb, ltb-true}
 use Rattle.sums.specs.Sums.{sumTo, bit}
 use Rattle.sums.specs.Tables.{cell}
 use Rattle.sums.proofs.Cases.{by-eq, by-lt}
-use Rattle.sums.proofs.Sums.{sum-all-zero, sum-mono, sum-bump, sum-tight}
+use Rattle.sums.proofs.Sums.{sum-all-zero, sum-bump, sum-tight}
+use Rattle.sums.proofs.Gates.{bit-most, bit-one}
 use Rattle.sums.proofs.Tables.{length-square, square-cell}
-use Rattle.star.specs.Lines.{sourceOn, destinationOn, crossing, onLine, lineSum, Admissible}
-use Rattle.star.proofs.LineLaws.{source-lt, destination-lt, line-ext}
+use Rattle.star.specs.Lines.{sourceOn, destinationOn, crossing, lineSum, Admissible}
+use Rattle.star.proofs.LineLaws.{line-ext, line-mono}
 use Rattle.fair.specs.Fair.{Cutting, modified, modifiedSum, unmodifiedSum, numerator, taken, cutCell, cutLine, step, steps, uncut, fairKept}
 use Rattle.fair.specs.Cuts.{Sound, Least}
-use Rattle.fair.proofs.Crossings.{Meet, Beside, two-lines, crossing-lt}
-use Rattle.fair.proofs.Fractions.{floor-most, floor-less, floor-none, floors-most}
+use Rattle.star.proofs.CrossingLaws.{Meet, Beside, two-lines, crossing-lt}
+use Rattle.sums.proofs.Fractions.{floor-most, floor-less, floor-none, floors-most}
 use Rattle.fair.proofs.LineCuts.{loose, looseOn, unmodified-is, modified-on, cell-split, line-split, value-on-cut, value-off-cut, own-unmodified, own-modified, crossed-unmodified, crossed-modified, beside-unmodified, beside-modified}
 use Rattle.fair.proofs.Choices.{Quiet, taken-least, taken-none}
 
@@ -108,8 +109,7 @@ module _ (n : ℕ) (cap : List ℕ) (s : Cutting) (h : Sound n cap s) where
 
     -- no line grows
     pub line-shrinks : (m : ℕ) → m < 2 * n → lineSum n (cutLine n cap s ℓ .values) m ≤ lineSum n (s .values) m
-    unfolding lineSum onLine
-    line-shrinks m hm = sum-mono n _ _ (λ t p. cell-shrinks _ _ (source-lt n m t hm p) (destination-lt n m t hm p))
+    line-shrinks = line-mono n (cutLine n cap s ℓ .values) (s .values) cell-shrinks
 
     passed-within : (m : ℕ) → m < 2 * n → (m ≡ ℓ → ⊥) → modifiedSum n (cutLine n cap s ℓ) m ≤ getD cap m 0
     unfolding numerator
@@ -226,14 +226,6 @@ module _ (n : ℕ) (cap : List ℕ) where
       (rw (cut-flag n cap s h ℓ γ, over-uncut n cap s h ℓ (γ .line) (γ .over)) refl)
       (λ m hm ne. rw (flag-kept n cap s h ℓ γ m ne) refl)
 
-  bit-most : (b : Bool) → bit b ≤ 1
-  bit-most true = omega arith
-  bit-most false = omega arith
-
-  bit-one : (b : Bool) → bit b ≡ 1 → b ≡ true
-  bit-one true e = refl
-  bit-one false e = absurd (omega arith)
-
   -- where all lines have been cut none exceeds
   all-cut : (s : Cutting) → Sound n cap s → 2 * n ≤ cuts n s → Quiet n cap s (2 * n)
   unfolding cuts
@@ -283,5 +275,4 @@ module _ (n : ℕ) (cap : List ℕ) where
 
     -- no line grows
     pub steps-shrink : (m ℓ : ℕ) → ℓ < 2 * n → lineSum n (steps n cap (uncut n d) m .values) ℓ ≤ lineSum n d ℓ
-    unfolding lineSum onLine
-    steps-shrink m ℓ hl = sum-mono n _ _ (λ t p. steps-below m _ _ (source-lt n ℓ t hl p) (destination-lt n ℓ t hl p))
+    steps-shrink m = line-mono n (steps n cap (uncut n d) m .values) d (steps-below m)

@@ -5,18 +5,13 @@ use mathlib.Core.Bool.{Bool, _&&_, _||_}
 use mathlib.Core.List.{List}
 use lib.ListN.{length, getD, set, replicate}
 use lib.Dec.{leb}
-use Rattle.star.specs.Tables.{Square, Demands}
+use Rattle.star.specs.Tables.{Square, Demands, Capacities}
 use Rattle.star.specs.Lines.{sourceOn, destinationOn, crossing, onLine, lineSum}
 use Rattle.fair.specs.Fair.{Cutting, modifiedSum, unmodifiedSum, numerator, exceeds, smaller, taken, cutLine}
 
 -- the state of the cut, from its two tables
 abbrev pub cutting : (kept done : List ℕ) → Cutting
 cutting kept done = record { values = kept; done = done }
-
--- the capacities of the 2N lines, each from 0 to 1,024
-pub record Capacities (n : ℕ) (cap : List ℕ) : Type 0 where
-  pub lines : 2 * n ≤ length cap
-  pub most : (ℓ : ℕ) → ℓ < 2 * n → getD cap ℓ 0 ≤ 1024
 
 -- what `cut` asks: up to 64 nodes, their demands, the capacities, and room for a cell for each pair
 pub record CanCut (n : ℕ) (cap demand kept : List ℕ) : Type 0 where

@@ -1,33 +1,8 @@
 // One line is cut: each of its unmodified cells v becomes v×(L−b)/a rounded down.
+use star::lines::crossing;
 use star::lines::on_line;
-use star::tables::put;
-ghost use mathlib.Core.Path.{_≡_};
-ghost use Prim.Native.Nat.{_+_, _*_, _<_, _≤_};
-ghost use lib.ListN.{set};
-ghost use Rattle.star.specs.Tables.{Square};
-ghost use Rattle.star.specs.Lines.{sourceOn, destinationOn, crossing};
+use star::lines::put_on_line;
 ghost use Rattle.fair.specs.Cuts.{CanCutCell, CellCut, CanCutLine, LineCut};
-
-// The line that crosses a line at its t-th pair.
-fn crossing(n: usize, line: usize, t: usize) -> usize
-    requires { ⌜ (n ≤ 64) × (t < n) ⌝ }
-    ensures { λ r. ⌜ r ≡ crossing n line t ⌝ }
-{
-    if line < n { n + t } else { t }
-}
-
-// The t-th pair of a line has x from now on.
-fn put_on_line(n: usize, table: &mut [u32], line: usize, t: usize, x: u32)
-    requires { ⌜ Square n (now table) ⌝ }
-    requires { ⌜ (line < 2 * n) × (t < n) ⌝ }
-    ensures { λ _. ⌜ now (table .exit) ≡ set (now (table .entry)) (sourceOn n line t * n + destinationOn n line t) x ⌝ }
-{
-    if line < n {
-        put(n, table, line, t, x);
-    } else {
-        put(n, table, t, line - n, x);
-    }
-}
 
 // An unmodified cell v of a line becomes v×p/q rounded down, and goes over from a to b on the line that crosses there.
 fn cut_cell(

@@ -2,25 +2,14 @@
 use crate::choice::next_line;
 use crate::line::cut_line;
 use star::lines::line_sum;
+use star::tables::copy;
 ghost use mathlib.Core.Path.{_≡_};
 ghost use Prim.Native.Nat.{_*_, _<_, _≤_};
-ghost use lib.ListN.{length, getD};
-ghost use Rattle.sums.specs.Tables.{tab, written};
+ghost use lib.ListN.{length};
+ghost use Rattle.sums.specs.Tables.{written};
 ghost use Rattle.star.specs.Tables.{Square, Demands};
 ghost use Rattle.fair.specs.Fair.{fairKept};
 ghost use Rattle.fair.specs.Cuts.{CanCut, CanCutExactly, CanCutAll, Summed};
-
-// The demands, as many as kept has cells.
-fn copy(demand: &[u32], kept: &mut [u32])
-    requires { ⌜ length (now kept) ≤ length (now demand) ⌝ }
-    ensures { λ _. ⌜ now (kept .exit) ≡ tab (length (now (kept .entry))) (λ p. getD (now (demand .entry)) p 0) ⌝ }
-{
-    let mut p = 0;
-    while p < kept.len() {
-        kept[p] = demand[p];
-        p += 1;
-    }
-}
 
 // The sum of each line.
 fn line_sums(n: usize, demand: &[u32], sums: &mut [u32])
@@ -59,7 +48,7 @@ fn cut_exactly(n: usize, cap: &[u32], demand: &[u32], kept: &mut [u32], done: &m
 {
     let mut a = [0u32; 128];
     let mut b = [0u32; 128];
-    copy(demand, kept);
+    copy(demand, kept, n * n);
     line_sums(n, demand, &mut a);
     cut_all(n, cap, kept, done, &mut a, &mut b);
 }

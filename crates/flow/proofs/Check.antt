@@ -1,45 +1,28 @@
 -- A certificate that computes, for worked examples: whether a matrix is feasible is tested cell by cell and line by line, and a feasible
 -- matrix whose total is the cut of some marks is the largest. An example gives `refl` twice to `meets-cut`, under
--- `unfolding feasible? below? lines? all sumTo total cut lineSum onLine sourceOn destinationOn cell`. Assumes nothing.
-use Prim.Native.Nat.{ℕ, zero, suc, _*_, _<_}
+-- `unfolding feasible? below? lines? allBelow sumTo total cut lineSum onLine sourceOn destinationOn cell`. Assumes nothing.
+use Prim.Native.Nat.{ℕ, _*_}
 use native.Mathlib.Omega.{arith}
-use mathlib.Core.Path.{_≡_, refl, _∙_, ap}
-use mathlib.Core.Bool.{Bool, true, false, _&&_}
+use mathlib.Core.Path.{_≡_}
+use mathlib.Core.Bool.{Bool, true, _&&_}
 use mathlib.Core.List.{List}
 use lib.ListN.{getD}
 use lib.Dec.{leb, eqb}
 use borrow.Author.Tests.{eqb-true, leb-true}
+use Rattle.sums.specs.Searches.{allBelow}
 use Rattle.sums.specs.Tables.{cell}
-use Rattle.sums.proofs.Cases.{by-eq}
+use Rattle.sums.proofs.Searches.{both-first, both-second, all-at}
 use Rattle.star.specs.Lines.{lineSum, total}
 use Rattle.flow.specs.Flows.{Feasible, Largest, cut}
 use Rattle.flow.proofs.Duality.{within-cut}
 
-both-first : (a b : Bool) → (a && b) ≡ true → a ≡ true
-both-first true b e = refl
-both-first false b e = e
-
-both-second : (a b : Bool) → (a && b) ≡ true → b ≡ true
-both-second true b e = e
-both-second false b e = cc
-
--- whether a test passes at each number below n
-unfoldable pub all : ℕ → (ℕ → Bool) → Bool
-all zero p = true
-all (suc n) p = p n && all n p
-
-pub all-at : (n : ℕ) (p : ℕ → Bool) → all n p ≡ true → (i : ℕ) → i < n → p i ≡ true
-unfolding all
-all-at zero p e i h = absurd (omega arith)
-all-at (suc n) p e i h = by-eq i n (λ s. ap p s ∙ both-first (p n) (all n p) e) (λ s. all-at n p (both-second (p n) (all n p) e) i (omega arith))
-
 module _ (n : ℕ) (bound limit a : List ℕ) where
   -- the two parts of being feasible, and both
   unfoldable pub below? : Bool
-  below? = all n (λ i. all n (λ j. leb (cell n a i j) (cell n bound i j)))
+  below? = allBelow n (λ i. allBelow n (λ j. leb (cell n a i j) (cell n bound i j)))
 
   unfoldable pub lines? : Bool
-  lines? = all (2 * n) (λ ℓ. leb (lineSum n a ℓ) (getD limit ℓ 0))
+  lines? = allBelow (2 * n) (λ ℓ. leb (lineSum n a ℓ) (getD limit ℓ 0))
 
   unfoldable pub feasible? : Bool
   feasible? = below? && lines?
@@ -47,7 +30,7 @@ module _ (n : ℕ) (bound limit a : List ℕ) where
   pub feasible-is : feasible? ≡ true → Feasible n bound limit a
   unfolding feasible? below? lines?
   feasible-is e = record {
-    below = λ i j p q. leb-true _ _ (all-at n (λ j. leb (cell n a i j) (cell n bound i j)) (all-at n (λ i. all n (λ j. leb (cell n a i j) (cell n bound i j))) (both-first below? lines? e) i p) j q);
+    below = λ i j p q. leb-true _ _ (all-at n (λ j. leb (cell n a i j) (cell n bound i j)) (all-at n (λ i. allBelow n (λ j. leb (cell n a i j) (cell n bound i j))) (both-first below? lines? e) i p) j q);
     lines = λ ℓ p. leb-true _ _ (all-at (2 * n) (λ ℓ. leb (lineSum n a ℓ) (getD limit ℓ 0)) (both-second below? lines? e) ℓ p);
   }
 

@@ -14,7 +14,8 @@ use Rattle.sums.proofs.Tables.{cell-lt}
 use Rattle.star.specs.Lines.{sourceOn, destinationOn, onLine, lineSum}
 use Rattle.star.proofs.LineLaws.{source-lt, destination-lt, line-ext}
 use Rattle.levels.specs.Levels.{movable, seat}
-use Rattle.levels.proofs.Crossings.{cross-row, cross-column, seat-row, seat-column, movable-row, movable-column}
+use Rattle.star.proofs.CrossingLaws.{crossing-row, crossing-column}
+use Rattle.levels.proofs.Seats.{seat-row, seat-column, movable-row, movable-column}
 use Rattle.flow.specs.Flows.{Feasible, Closed, marked}
 use Rattle.flow.specs.Certified.{Bounded}
 use Rattle.flow.specs.Draws.{span, Roomy, Kept, Full}
@@ -52,12 +53,12 @@ module _ (n : ℕ) (bound limit a room a′ room′ marks : List ℕ) (f : Full 
     rows = λ i p m. at-limit i (omega arith) (f .searched .starts i p (omega (arith, ltb-false 0 (getD marks i 0) m)));
     columns = λ j q m. at-limit (n + j) (omega arith) (f .full j q (ltb-true 0 (getD marks (n + j) 0) m));
     full = λ i j p q m u.
-        let x = cross-row n i p j in
+        let x = crossing-row n i j p in
         let z : movable n bound a′ (n + j) i ≡ 0 = rw (x, seat-row n i p) at (f .searched .closed i j (omega arith) q (ltb-true 0 (getD marks i 0) m) (rw x (omega (arith, ltb-false 0 (getD marks (n + j) 0) u)))) in
         let e : (n + j) - n ≡ j = omega arith in
         omega (arith, f .kept .below i j p q, rw e at (sym (movable-column n (n + j) (omega arith) bound a′ i) ∙ z));
     empty = λ i j p q m u.
-        let x = cross-column n (n + j) (omega arith) i in
+        let x = crossing-column n (n + j) i (omega arith) in
         let s : seat n (n + j) ≡ j = seat-column n (n + j) (omega arith) ∙ omega arith in
         let z : movable n bound a′ i j ≡ 0 = rw (x, s) at (f .searched .closed (n + j) i (omega arith) p (ltb-true 0 (getD marks (n + j) 0) u) (rw x (omega (arith, ltb-false 0 (getD marks i 0) m)))) in
         sym (movable-row n i p bound a′ j) ∙ z;

@@ -15,11 +15,12 @@ use Rattle.star.specs.Tables.{Demands}
 use Rattle.star.specs.Lines.{sourceOn, destinationOn, onLine, lineSum, crossing}
 use Rattle.star.proofs.LineLaws.{source-lt, destination-lt, on-row, on-column, on-line-most}
 use Rattle.levels.specs.Levels.{Below, movable, Layered}
-use Rattle.levels.proofs.Crossings.{cross-lt, cross-other, cross-row, cross-column, movable-row, movable-column}
-use Rattle.levels.proofs.Growing.{at-set}
+use Rattle.star.proofs.CrossingLaws.{crossing-lt, crossing-other, crossing-row, crossing-column}
+use Rattle.levels.proofs.Seats.{movable-row, movable-column}
+use Rattle.sums.proofs.Tables.{at-set}
 use Rattle.flow.specs.Draws.{span, passed, Roomy, Moved, Drawn, CanPass, CanDraw}
 use Rattle.flow.proofs.Takes.{roomy-again}
-use Rattle.flow.proofs.Stores.{apart-line, apart-sum, both-sums, store-below}
+use Rattle.star.proofs.StoreLaws.{apart-line, apart-sum, both-sums, store-below}
 
 passed-row : (n : ℕ) (a : List ℕ) (ℓ t x : ℕ) → ℓ < n → passed n a ℓ t x ≡ onLine n a ℓ t - x
 unfolding passed
@@ -88,7 +89,7 @@ module _ (n : ℕ) (bound a room marks : List ℕ) (ℓ level want x : ℕ) (can
 -- ---- through one pair
 module _ {n : ℕ} {bound a₀ room₀ marks₀ a room marks a₁ room₁ marks₁ : List ℕ} {ℓ level got t low x : ℕ} (M : Moved n bound a₀ room₀ marks₀ a room marks ℓ level got) (D : Moved n bound a room marks a₁ room₁ marks₁ (crossing n ℓ t) low x) (hl : ℓ < 2 * n) (ht : t < n) (own : getD marks ℓ 0 ≡ level) (below : getD marks (crossing n ℓ t) 0 + 1 ≡ level) (lower : low + 1 ≡ level) (can : x ≤ movable n bound a ℓ t) (fits : n * n ≤ length a₁) where
   apart : ℓ ≡ crossing n ℓ t → ⊥
-  apart e = cross-other n ℓ hl t ht (sym e)
+  apart e = crossing-other n ℓ t ht (sym e)
 
   -- the pair still has what it had
   pair-kept : onLine n a₁ ℓ t ≡ onLine n a ℓ t
@@ -116,10 +117,10 @@ module _ {n : ℕ} {bound a₀ room₀ marks₀ a room marks a₁ room₁ marks�
   unfolding span
   other-span =
       let b = both-sums n a₁ ℓ t (passed n a₁ ℓ t x) hl ht fits in
-      let o = M .others (crossing n ℓ t) (cross-lt n ℓ hl t ht) (λ e. apart (sym e)) in
+      let o = M .others (crossing n ℓ t) (crossing-lt n ℓ t hl ht) (λ e. apart (sym e)) in
       by-lt ℓ n
-      (λ h. omega (arith, b .1, o, passed-row n a₁ ℓ t x h, row-can h, D .column (omega (arith, cross-row n ℓ h t))))
-      (λ h. omega (arith, b .1, o, passed-column n a₁ ℓ t x h, D .row (omega (arith, cross-column n ℓ h t))))
+      (λ h. omega (arith, b .1, o, passed-row n a₁ ℓ t x h, row-can h, D .column (omega (arith, crossing-row n ℓ t h))))
+      (λ h. omega (arith, b .1, o, passed-column n a₁ ℓ t x h, D .row (omega (arith, crossing-column n ℓ t h))))
 
   pub moved-step : Moved n bound a₀ room₀ marks₀ (set a₁ (sourceOn n ℓ t * n + destinationOn n ℓ t) (passed n a₁ ℓ t x)) room₁ marks₁ ℓ level (got + x)
   unfolding span onLine
@@ -177,7 +178,7 @@ module _ {n : ℕ} {bound a₀ room₀ marks₀ a room marks : List ℕ} {ℓ le
       roomy = roomy-now;
       lines = omega (arith, can .lines);
       rows = λ c q e. can .rows c q (G .moved .rows c q e);
-      line = cross-lt n ℓ (can .line) t ht;
+      line = crossing-lt n ℓ t (can .line) ht;
       own = omega arith;
       reached = omega arith;
       some = some;

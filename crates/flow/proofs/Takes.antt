@@ -11,7 +11,7 @@ use Rattle.sums.proofs.Sums.{sum-update}
 use Rattle.sums.proofs.Cases.{by-eq, by-lt}
 use Rattle.levels.specs.Levels.{Below, Searched}
 use Rattle.flow.specs.Draws.{span, columnRoom, Roomy, Kept, Drawn, Took, Full}
-use Rattle.flow.proofs.Stores.{store-row, store-column, store-sum, store-below}
+use Rattle.star.proofs.StoreLaws.{store-row, store-column, store-sum, store-below}
 
 -- ---- spans that are kept
 pub kept-none : (n : ℕ) (bound a room : List ℕ) → Below n bound a → Kept n bound a room a room

@@ -3,8 +3,8 @@
 use crate::numbers::larger;
 use crate::numbers::smaller;
 use levels::pairs::can_move;
-use levels::pairs::cross;
 use levels::search::search;
+use star::lines::crossing;
 use star::tables::get;
 use star::tables::put;
 ghost use mathlib.Core.Path.{_≡_};
@@ -43,7 +43,7 @@ fn drawable(
     requires { ⌜ (2 * n ≤ length (now marks)) × (line < 2 * n) × (t < n) × (0 < level) × (0 < want) ⌝ }
     ensures { λ r. ⌜ Drawable n (now (bound .entry)) (now (a .entry)) (now (marks .entry)) line level t want r ⌝ }
 {
-    let other = cross(n, line, t);
+    let other = crossing(n, line, t);
     if marks[other] != level - 1 {
         return 0;
     }
@@ -86,7 +86,16 @@ fn draw(
             t += 1;
             continue;
         }
-        let x = draw(n, bound, a, room, marks, cross(n, line, t), level - 1, part);
+        let x = draw(
+            n,
+            bound,
+            a,
+            room,
+            marks,
+            crossing(n, line, t),
+            level - 1,
+            part,
+        );
         pass(n, a, line, t, x);
         got += x;
         if got == want {

@@ -3,34 +3,8 @@
 use crate::numbers::smaller;
 use star::tables::get;
 use star::tables::put;
-ghost use mathlib.Core.Path.{_≡_};
-ghost use Prim.Native.Nat.{ℕ, _+_, _<_, _≤_};
-ghost use lib.ListN.{length, getD};
+ghost use Prim.Native.Nat.{_<_};
 ghost use Rattle.flow.specs.Draws.{Roomy, Kept};
-
-// Sets the first cells of a table to 0.
-pub fn clear(table: &mut [u32], cells: usize)
-    requires { ⌜ cells ≤ length (now table) ⌝ }
-    ensures { λ _. ⌜ ((k : ℕ) → k < cells → getD (now (table .exit)) k 0 ≡ 0) ⌝ }
-{
-    let mut k = 0;
-    while k < cells {
-        table[k] = 0;
-        k += 1;
-    }
-}
-
-// Copies the first cells of a table.
-pub fn copy(from: &[u32], to: &mut [u32], cells: usize)
-    requires { ⌜ (cells ≤ length (now from)) × (cells ≤ length (now to)) ⌝ }
-    ensures { λ _. ⌜ ((k : ℕ) → k < cells → getD (now (to .exit)) k 0 ≡ getD (now (from .entry)) k 0) ⌝ }
-{
-    let mut k = 0;
-    while k < cells {
-        to[k] = from[k];
-        k += 1;
-    }
-}
 
 // The next column, and after the last the first.
 fn next(n: usize, j: usize) -> usize

@@ -4,9 +4,9 @@ mod fill;
 mod numbers;
 
 use crate::draw::grow;
-use crate::fill::clear;
-use crate::fill::copy;
 use crate::fill::fill;
+use star::tables::clear;
+use star::tables::copy;
 ghost use Prim.Native.Nat.{_*_, _≤_};
 ghost use lib.ListN.{length};
 ghost use Rattle.flow.specs.Flows.{Feasible, Closed};
@@ -25,7 +25,7 @@ fn largest_on(
     requires { ⌜ 2 * n ≤ length (now room) ⌝ }
     ensures { λ _. ⌜ Feasible n (now (bound .entry)) (now (limit .entry)) (now (a .exit)) × Closed n (now (bound .entry)) (now (limit .entry)) (now (a .exit)) (now (marks .exit)) ⌝ }
 {
-    clear(a, n * n);
+    clear(n, a);
     copy(limit, room, 2 * n);
     fill(n, bound, a, room);
     grow(n, bound, a, room, marks);

@@ -6,13 +6,12 @@ use mathlib.Core.Path.{_≡_, sym, _∙_}
 use mathlib.Core.List.{List}
 use Rattle.sums.specs.Sums.{sumTo, hit}
 use Rattle.sums.specs.Tables.{cell, square}
-use Rattle.sums.proofs.Sums.{sum-ext, sum-swap, sum-one}
+use Rattle.sums.proofs.Sums.{sum-ext, sum-swap, sum-one, sum-once, sum-hit-most}
 use Rattle.sums.proofs.Cases.{by-lt}
 use Rattle.sums.proofs.Tables.{square-cell}
 use Rattle.star.specs.Lines.{lineSum, wholeFrame, Admissible}
 use Rattle.star.specs.Schedules.{ConflictFree, count}
 use Rattle.star.proofs.LineLaws.{row-sum, column-sum, capacity}
-use Rattle.least.proofs.Sums.{sum-once, sum-hit-most}
 
 module _ {n l : ℕ} {s : List ℕ} (f : ConflictFree n l s) where
   row-count : (i : ℕ) → i < n → lineSum n (square n (count n l s)) i ≤ l

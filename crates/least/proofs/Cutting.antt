@@ -1,7 +1,7 @@
 -- Cutting the lines of E one after the other, in place: where two lines too long meet only in a zero cell, a line that is to be cut still has
 -- E's cells when its turn comes, and a line that is not too long in E never becomes so; after the last line every cell has what is kept.
 -- Assumes nothing.
-use Prim.Native.Nat.{ℕ, _+_, _-_, _*_, _/_, _%_, _≤_, _<_}
+use Prim.Native.Nat.{ℕ, _+_, _-_, _*_, _≤_, _<_}
 use native.Mathlib.Omega.{arith}
 use mathlib.Core.Path.{_≡_, refl, sym, _∙_, ap}
 use mathlib.Core.Bool.{true, false, false≢true}
@@ -10,15 +10,12 @@ use lib.ListN.{length, getD, take, drop}
 use lib.Seq.{take-at, drop-at}
 use borrow.Author.Tests.{le-ltb}
 use Rattle.sums.specs.Tables.{cell, square, written}
-use Rattle.sums.proofs.Cases.{by-eq, by-lt}
-use Rattle.sums.proofs.Tables.{length-square, square-cell, square-ext, place-split}
-use Rattle.star.specs.Tables.{Demands}
+use Rattle.sums.proofs.Cases.{by-eq, by-lt, by-test}
+use Rattle.sums.proofs.Tables.{length-square, square-cell, square-ext}
 use Rattle.star.specs.Lines.{onLine, lineSum}
-use Rattle.star.proofs.LineLaws.{on-row, on-column}
+use Rattle.star.proofs.LineLaws.{on-row, on-column, demands-below, in-column, line-mono}
 use Rattle.least.specs.Least.{longer, shared, left, keptCell, keptFrom}
 use Rattle.least.specs.Promises.{MeetInZero, Rewritten, LineShared, CanShare, CanKeep}
-use Rattle.least.proofs.Sums.{by-test}
-use Rattle.least.proofs.Lines.{in-column, line-mono}
 use Rattle.least.proofs.Remains.{length-left, left-below, shorter-is, two-longer-lines-meet-in-zero}
 use Rattle.least.proofs.Shares.{longer-same, shared-same}
 use Rattle.least.proofs.Keeping.{row-shared-below, column-shared-below, kept-row, kept-column, kept-other}
@@ -28,16 +25,6 @@ pub record Cutting (n : ℕ) (cap e : List ℕ) (m : ℕ) (k : List ℕ) : Type 
   pub rows : (i j : ℕ) → i < n → j < n → i < m → longer n cap e i ≡ true → cell n k i j ≡ shared n cap e i j
   pub columns : (i j : ℕ) → i < n → j < n → n + j < m → longer n cap e (n + j) ≡ true → cell n k i j ≡ shared n cap e (n + j) i
   pub others : (i j : ℕ) → i < n → j < n → (i < m → longer n cap e i ≡ false) → (n + j < m → longer n cap e (n + j) ≡ false) → cell n k i j ≡ cell n e i j
-
--- numbers that are at most demands are demands
-pub demands-below : (n : ℕ) (d e : List ℕ) → Demands n d → ((i j : ℕ) → i < n → j < n → cell n e i j ≤ cell n d i j) → Demands n e
-unfolding cell
-demands-below n d e most below = record {
-  most = λ p h.
-      let at = place-split n p h in
-      let less = below (p / n) (p % n) (at .0) (at .1 .0) in
-      omega (arith, most .most p h, rw (at .1 .1) at less);
-}
 
 module _ {n : ℕ} {cap e : List ℕ} where
   pub cutting-none : Cutting n cap e 0 e

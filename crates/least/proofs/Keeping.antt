@@ -6,19 +6,17 @@ use native.Mathlib.Omega.{arith}
 use mathlib.Core.Path.{_≡_, refl, sym, _∙_, ap, ap₂}
 use mathlib.Core.Bool.{true, false, cond}
 use mathlib.Core.List.{List}
-use lib.ListN.{getD}
+use lib.ListN.{length, getD}
 use Rattle.sums.specs.Sums.{sumTo, gate}
 use Rattle.sums.specs.Tables.{cell, square}
 use Rattle.sums.proofs.Sums.{sum-ext, sum-add, sum-swap}
 use Rattle.sums.proofs.Gates.{sum-gate}
-use Rattle.sums.proofs.Cases.{by-lt}
-use Rattle.sums.proofs.Tables.{square-cell}
+use Rattle.sums.proofs.Cases.{by-lt, by-test}
+use Rattle.sums.proofs.Tables.{length-square, square-cell}
 use Rattle.star.specs.Lines.{onLine, lineSum, total, excess, Admissible}
-use Rattle.star.proofs.LineLaws.{on-row, on-column}
+use Rattle.star.proofs.LineLaws.{on-row, on-column, in-column, line-mono, sum-lines, lines-twice}
 use Rattle.least.specs.Least.{Greatest, left, longer, shared, keptCell, keptFrom}
 use Rattle.least.specs.Promises.{MeetInZero}
-use Rattle.least.proofs.Sums.{by-test}
-use Rattle.least.proofs.Lines.{in-column, line-mono, sum-lines, lines-twice}
 use Rattle.least.proofs.Remains.{left-below, left-total, excess-parts, longer-is, shorter-is, two-longer-lines-meet-in-zero}
 use Rattle.least.proofs.Shares.{shared-below, shared-sums-to-capacity}
 
@@ -151,6 +149,10 @@ module _ (n : ℕ) (cap e : List ℕ) where
             ∙ lost-on-line (n + j)
 
 -- ---- given D and a greatest A
+pub length-kept : (n : ℕ) (cap d a : List ℕ) → length (keptFrom n cap d a) ≡ n * n
+unfolding keptFrom
+length-kept n cap d a = length-square n (keptCell n cap (left n d a))
+
 pub kept-below : (n : ℕ) (cap d a : List ℕ) (i j : ℕ) → i < n → j < n → cell n (keptFrom n cap d a) i j ≤ cell n d i j
 unfolding keptFrom
 kept-below n cap d a i j p q = omega (arith, square-cell n (keptCell n cap (left n d a)) i j p q, kept-cell-below n cap (left n d a) i j p, left-below n d a i j p q)

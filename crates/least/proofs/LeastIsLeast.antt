@@ -13,10 +13,9 @@ use Rattle.sums.proofs.Cases.{by-lt}
 use Rattle.sums.proofs.Tables.{square-cell}
 use Rattle.star.specs.Lines.{lineSum, total, wholeFrame, excess, Admissible}
 use Rattle.star.specs.Schedules.{ConflictFree, count, refusedBy}
-use Rattle.star.proofs.LineLaws.{row-sum, column-sum, excess-is}
+use Rattle.star.proofs.LineLaws.{row-sum, column-sum, excess-is, sum-lines}
 use Rattle.flow.specs.Flows.{Feasible}
 use Rattle.least.specs.Least.{Greatest, keptFrom}
-use Rattle.least.proofs.Lines.{sum-lines}
 use Rattle.least.proofs.Withdrawals.{feasible-is-withdrawn, limit-at}
 use Rattle.least.proofs.Keeping.{refused-total}
 use Rattle.least.proofs.Counts.{counts-admissible}

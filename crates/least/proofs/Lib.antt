@@ -1,6 +1,4 @@
 -- The laws of the least rule.
-pub mod Sums
-pub mod Lines
 pub mod Withdrawals
 pub mod Remains
 pub mod Ranks
@@ -8,5 +6,5 @@ pub mod Shares
 pub mod Keeping
 pub mod Counts
 pub mod LeastIsLeast
-pub mod Stores
+pub mod Rewritings
 pub mod Cutting

@@ -8,10 +8,9 @@ use mathlib.Core.Bool.{true, false, false≢true}
 use lib.Dec.{ltb}
 use borrow.Author.Tests.{lt-ltb, le-ltb, eq-eqb, ne-eqb}
 use Rattle.sums.specs.Sums.{sumTo, bit, hit}
-use Rattle.sums.proofs.Sums.{sum-ext, sum-swap, sum-hit, sum-full, sum-one, sum-tight, sum-all-zero, hit-same, hit-other}
-use Rattle.sums.proofs.Cases.{by-eq, by-lt}
+use Rattle.sums.proofs.Sums.{sum-ext, sum-swap, sum-hit, sum-full, sum-one, sum-tight, sum-all-zero, hit-same, hit-other, sum-once, sum-strict}
+use Rattle.sums.proofs.Cases.{by-eq, by-lt, by-test}
 use Rattle.least.specs.Least.{before, rank}
-use Rattle.least.proofs.Sums.{by-test, sum-once, sum-strict}
 
 module _ (r : ℕ → ℕ) where
   -- ---- the order of a line's cells

@@ -12,12 +12,12 @@ use lib.Dec.{ltb}
 use borrow.Author.Tests.{lt-ltb, le-ltb, ltb-true}
 use Rattle.sums.specs.Sums.{sumTo, bit}
 use Rattle.sums.proofs.Sums.{sum-ext, sum-add, sum-mono, sum-scale, sum-one, sum-most}
-use Rattle.sums.proofs.Cases.{by-eq, by-lt}
+use Rattle.sums.proofs.Gates.{bit-most}
+use Rattle.sums.proofs.Cases.{by-eq, by-lt, by-test}
 use Rattle.star.specs.Lines.{onLine, lineSum}
 use Rattle.star.proofs.LineLaws.{on-line-most}
 use Rattle.least.specs.Least.{longer, share, remainder, missing, before, rank, shared}
 use Rattle.least.specs.Promises.{Line, claim, larger, Divided}
-use Rattle.least.proofs.Sums.{by-test}
 use Rattle.least.proofs.Ranks.{larger-before, smaller-after, lower-before, higher-after, ranks-below, rank-same}
 
 module _ (n : ℕ) (cap e : List ℕ) (ℓ : ℕ) (long : getD cap ℓ 0 < lineSum n e ℓ) where
@@ -68,7 +68,7 @@ module _ (n : ℕ) (cap e : List ℕ) (ℓ : ℕ) (long : getD cap ℓ 0 < lineS
       (omega arith)
 
   pub missing-most : missing n cap e ℓ ≤ n
-  missing-most = omega (arith, many, sum-one n (λ t. bit (ltb 0 (remainder n cap e ℓ t))) (λ t h. by-test (ltb 0 (remainder n cap e ℓ t)) (λ b. rw b (omega arith)) (λ b. rw b (omega arith))))
+  missing-most = omega (arith, many, sum-one n (λ t. bit (ltb 0 (remainder n cap e ℓ t))) (λ t h. bit-most (ltb 0 (remainder n cap e ℓ t))))
 
   -- a cell that gains had a remainder
   pub gain-has-remainder : (t : ℕ) → rank n (remainder n cap e ℓ) t < missing n cap e ℓ → 0 < remainder n cap e ℓ t

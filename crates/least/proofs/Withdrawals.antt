@@ -10,13 +10,12 @@ use borrow.Author.Tests.{ltb-false}
 use Rattle.sums.specs.Tables.{cell, tab, written}
 use Rattle.sums.proofs.Tables.{length-tab, tab-at, written-first}
 use Rattle.star.specs.Lines.{lineSum, overflows, excess, critical}
-use Rattle.star.proofs.LineLaws.{excess-is, overflows-is}
+use Rattle.star.proofs.LineLaws.{excess-is, overflows-is, cell-in-row, cell-in-column}
 use Rattle.flow.specs.Flows.{Feasible, Largest}
 use Rattle.flow.proofs.Duality.{closed-is-largest}
 use Rattle.flow.specs.Certified.{Certified}
 use Rattle.least.specs.Least.{Withdrawn, Greatest}
 use Rattle.least.specs.Promises.{Withdrew}
-use Rattle.least.proofs.Lines.{cell-in-row, cell-in-column}
 
 module _ (n : ℕ) (cap d : List ℕ) where
   -- the limits: each line's excess

@@ -1,30 +1,17 @@
 // What is kept of a demand D, given the withdrawn matrix A: E, which is D minus A, with each line that is still too long cut to its capacity.
 use star::lines::line_sum;
 use star::lines::on_line;
-use star::tables::put;
+use star::lines::put_on_line;
 ghost use mathlib.Core.Path.{_≡_};
 ghost use Prim.Native.Nat.{ℕ, _+_, _*_, _<_, _≤_};
 ghost use lib.Dec.{ltb};
-ghost use lib.ListN.{length, getD, set};
+ghost use lib.ListN.{length, getD};
 ghost use Rattle.sums.specs.Sums.{bit};
 ghost use Rattle.sums.specs.Tables.{square, written};
 ghost use Rattle.star.specs.Tables.{Square};
-ghost use Rattle.star.specs.Lines.{sourceOn, destinationOn, lineSum};
+ghost use Rattle.star.specs.Lines.{lineSum};
 ghost use Rattle.least.specs.Least.{left, keptCell, keptFrom};
 ghost use Rattle.least.specs.Promises.{Rewritten, Line, claim, larger, Divided, LineShared, CanShare, CanKeep};
-
-// The t-th pair of a line has x from now on.
-fn put_on_line(n: usize, table: &mut [u32], line: usize, t: usize, x: u32)
-    requires { ⌜ Square n (now table) ⌝ }
-    requires { ⌜ (line < 2 * n) × (t < n) ⌝ }
-    ensures { λ _. ⌜ now (table .exit) ≡ set (now (table .entry)) (sourceOn n line t * n + destinationOn n line t) x ⌝ }
-{
-    if line < n {
-        put(n, table, line, t, x);
-    } else {
-        put(n, table, t, line - n, x);
-    }
-}
 
 // Writes E.
 fn leave(n: usize, demand: &[u32], withdrawn: &[u32], table: &mut [u32])

@@ -3,7 +3,7 @@
 use Prim.Native.Nat.{ℕ, _+_, _*_, _≤_, _<_}
 use native.Mathlib.Omega.{arith}
 use mathlib.Core.Path.{_≡_, refl, sym, _∙_, ap}
-use mathlib.Core.Logic.{⊎-elim, _⊎_, inl, inr}
+use mathlib.Core.Logic.{⊎-elim}
 use mathlib.Core.List.{List}
 use lib.ListN.{length, getD, set}
 use lib.Seq.{getD-set-same, getD-set-other}
@@ -11,14 +11,12 @@ use borrow.Author.Count.{below-more}
 use Rattle.sums.specs.Sums.{hit}
 use Rattle.sums.proofs.Sums.{sum-update, sum-one, hit-same, hit-other}
 use Rattle.sums.proofs.Cases.{by-eq, by-lt}
+use Rattle.sums.proofs.Tables.{at-set}
 use Rattle.star.specs.Lines.{crossing}
+use Rattle.star.proofs.CrossingLaws.{crossing-lt}
 use Rattle.levels.specs.Levels.{movable, seat, Served, Searched}
 use Rattle.levels.specs.Searches.{unmarked, Start, Started, Grown, Spent, Spread, Swept, Searching}
-use Rattle.levels.proofs.Crossings.{cross-lt, seat-lt, cross-back}
-
--- what a table holds after a store
-pub at-set : (l : List ℕ) (j v k : ℕ) → j < length l → ((k ≡ j) × (getD (set l j v) k 0 ≡ v)) ⊎ ((k ≡ j → ⊥) × (getD (set l j v) k 0 ≡ getD l k 0))
-at-set l j v k h = by-eq k j (λ e. inl (e, ap (λ x. getD (set l j v) x 0) e ∙ getD-set-same l j v 0 h)) (λ e. inr (e, getD-set-other l j k v 0 e))
+use Rattle.levels.proofs.Seats.{seat-lt, crossing-back}
 
 -- ---- the first levels
 pub started-none : (n : ℕ) (room marks : List ℕ) → Started n room marks 0
@@ -38,7 +36,7 @@ module _ {n : ℕ} {bound a old marks : List ℕ} {level more : ℕ} (g : Grown 
   served-kept ℓ h pos s = record {
     pair = s .pair;
     within = s .within;
-    lower = omega (arith, s .lower, g .kept ℓ h (omega arith), g .kept (crossing n ℓ (s .pair)) (cross-lt n ℓ h (s .pair) (s .within)) (omega (arith, s .lower)));
+    lower = omega (arith, s .lower, g .kept ℓ h (omega arith), g .kept (crossing n ℓ (s .pair)) (crossing-lt n ℓ (s .pair) h (s .within)) (omega (arith, s .lower)));
     some = s .some;
   }
 
@@ -46,7 +44,7 @@ module _ {n : ℕ} {bound a old marks : List ℕ} {level more : ℕ} (g : Grown 
   unmarked-before ℓ h z = by-lt 0 (getD old ℓ 0) (λ p. absurd (omega (arith, g .kept ℓ h p))) (λ p. omega arith)
 
   pub spent-kept : (ℓ to : ℕ) → ℓ < 2 * n → to ≤ n → Spent n bound a old ℓ to → Spent n bound a marks ℓ to
-  spent-kept ℓ to h le s = record { closed = λ t q z. s .closed t q (unmarked-before (crossing n ℓ t) (cross-lt n ℓ h t (omega arith)) z) }
+  spent-kept ℓ to h le s = record { closed = λ t q z. s .closed t q (unmarked-before (crossing n ℓ t) (crossing-lt n ℓ t h (omega arith)) z) }
 
 -- ---- marks that are given
 pub grown-none : (n : ℕ) (bound a marks : List ℕ) (level : ℕ) → Grown n bound a marks marks level 0
@@ -113,8 +111,8 @@ module _ {n : ℕ} {bound a old marks : List ℕ} {ℓ level more t : ℕ} (s : 
 
   pub spread-mark : ℓ < 2 * n → t < n → 2 * n ≤ length marks → 0 < level → getD old ℓ 0 ≡ level → getD marks (crossing n ℓ t) 0 ≡ 0 → 0 < movable n bound a (crossing n ℓ t) (seat n ℓ) → Spread n bound a old (set marks (crossing n ℓ t) (level + 1)) ℓ level (more + 1) (t + 1)
   spread-mark hl ht fits pos at z some =
-      let lt = cross-lt n ℓ hl t ht in
-      let here : getD marks (crossing n (crossing n ℓ t) (seat n ℓ)) 0 ≡ level = ap (λ x. getD marks x 0) (cross-back n ℓ hl t ht) ∙ s .grown .kept ℓ hl (omega arith) ∙ at in
+      let lt = crossing-lt n ℓ t hl ht in
+      let here : getD marks (crossing n (crossing n ℓ t) (seat n ℓ)) 0 ≡ level = ap (λ x. getD marks x 0) (crossing-back n ℓ hl t ht) ∙ s .grown .kept ℓ hl (omega arith) ∙ at in
       let g = grown-one n bound a marks (crossing n ℓ t) level (omega arith) lt z (seat n ℓ) (seat-lt n ℓ hl) pos here some in
       let k = spent-kept g ℓ t hl (omega arith) (s .spent) in
       record {

@@ -1,3 +1,3 @@
--- The laws of crossing lines and of levels.
-pub mod Crossings
+-- The laws of what can move where lines cross, and of levels.
+pub mod Seats
 pub mod Growing

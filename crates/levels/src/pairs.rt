@@ -1,17 +1,8 @@
 // A pair seen from one of its two lines.
 use star::tables::get;
 ghost use mathlib.Core.Path.{_≡_};
-ghost use Prim.Native.Nat.{_+_, _*_, _<_, _≤_};
-ghost use Rattle.star.specs.Lines.{crossing};
+ghost use Prim.Native.Nat.{_*_, _<_};
 ghost use Rattle.levels.specs.Levels.{Below, movable, seat};
-
-// The line that crosses a line at its t-th pair.
-pub fn cross(n: usize, line: usize, t: usize) -> usize
-    requires { ⌜ (n ≤ 64) × (t < n) ⌝ }
-    ensures { λ r. ⌜ r ≡ crossing n line t ⌝ }
-{
-    if line < n { n + t } else { t }
-}
 
 // The place that a line has on each line that crosses it.
 pub fn seat_of(n: usize, line: usize) -> usize

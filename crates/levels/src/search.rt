@@ -1,8 +1,8 @@
 // The search, level by level: rows with room have level 1, and a line passes its reach on to each line without a mark to which something can
 // move from it. What can move away from a line is what can move into the line that crosses it there.
 use crate::pairs::can_move;
-use crate::pairs::cross;
 use crate::pairs::seat_of;
+use star::lines::crossing;
 ghost use mathlib.Core.Path.{_≡_};
 ghost use Prim.Native.Nat.{_+_, _*_, _<_, _≤_};
 ghost use lib.ListN.{length, getD};
@@ -45,7 +45,7 @@ fn spread(n: usize, bound: &[u32], a: &[u32], marks: &mut [u8], line: usize, lev
     let mut more = 0;
     let mut t = 0;
     while t < n {
-        let other = cross(n, line, t);
+        let other = crossing(n, line, t);
         if marks[other] > 0 {
             t += 1;
             continue;

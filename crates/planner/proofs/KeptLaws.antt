@@ -1,23 +1,18 @@
 -- What each rule leaves in the tables is what `keep` promises: cells by the rule, further cells as before, admissible, at most D. Assumes nothing.
-use Prim.Native.Nat.{ℕ, _*_, _≤_, _<_}
+use Prim.Native.Nat.{ℕ, _*_, _<_}
 use native.Mathlib.Omega.{arith}
-use mathlib.Core.Path.{_≡_, refl, sym, _∙_, ap}
+use mathlib.Core.Path.{_≡_, _∙_, ap}
 use mathlib.Core.List.{List}
-use lib.ListN.{length, getD, take, drop, replicate, length-replicate}
+use lib.ListN.{length, take, drop, replicate, length-replicate}
 use Rattle.sums.specs.Tables.{cell, written}
-use Rattle.sums.proofs.Tables.{length-square, written-cell, written-first, written-rest}
-use Rattle.star.specs.Lines.{lineSum, Admissible}
+use Rattle.sums.proofs.Tables.{written-cell, written-first, written-rest}
+use Rattle.star.specs.Lines.{Admissible}
 use Rattle.star.proofs.LineLaws.{line-ext}
 use Rattle.fair.specs.Fair.{fairKept}
 use Rattle.fair.proofs.Steps.{fair-length, fair-admissible, fair-below}
-use Rattle.least.specs.Least.{Greatest, keptFrom, keptCell, left}
-use Rattle.least.specs.Promises.{Withdrew}
-use Rattle.least.proofs.Keeping.{kept-below, kept-admissible}
+use Rattle.least.specs.Least.{Greatest, keptFrom}
+use Rattle.least.proofs.Keeping.{length-kept, kept-below, kept-admissible}
 use Rattle.planner.specs.Kept.{Kept}
-
-pub length-kept : (n : ℕ) (cap d a : List ℕ) → length (keptFrom n cap d a) ≡ n * n
-unfolding keptFrom
-length-kept n cap d a = length-square n (keptCell n cap (left n d a))
 
 -- a table that begins with an admissible matrix is admissible, and at most what that is at most
 module _ (n : ℕ) (new old table : List ℕ) (fits : length new ≡ n * n) (e : table ≡ written (n * n) new old) where

@@ -2,3 +2,5 @@
 pub mod Books
 pub mod Runs
 pub mod Calls
+pub mod Checks
+pub mod Histories

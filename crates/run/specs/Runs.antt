@@ -15,7 +15,7 @@ use Rattle.star.specs.Lines.{wholeFrame}
 use Rattle.planner.specs.declared.answers.Answer.{Answer}
 use Rattle.planner.specs.Plans.{verdictOf, Wrote}
 use Rattle.run.specs.declared.record.Run.{Run}
-use Rattle.run.specs.Books.{firstDisagreeing}
+use Rattle.books.specs.Books.{firstDisagreeing}
 
 -- ---- fresh
 -- any of a run's four tables too short, given how many cells each has
@@ -94,6 +94,10 @@ pub record Posted (old : Run) (arrivals waiting posted sent dropped waiting' pos
   pub now-dropped : dropped' ≡ postDropped old arrivals waiting dropped v
 
 -- ---- frame
+-- any of the three tables that a frame writes too short, given how many cells each has
+abbrev pub planShort : (n l kept withdrawn schedule : ℕ) → Bool
+planShort n l kept withdrawn schedule = short kept (n * n) || short withdrawn (n * n) || short schedule (l * n)
+
 -- Frame 1, 2, 3, 7, 5, 8, 9; the last three numbers say how many cells kept, withdrawn and schedule have.
 unfoldable pub frameVerdict : (old : Run) (waiting posted sent dropped : List ℕ) (kept withdrawn schedule : ℕ) → Verdict
 frameVerdict old waiting posted sent dropped kept withdrawn schedule =
@@ -102,8 +106,7 @@ frameVerdict old waiting posted sent dropped kept withdrawn schedule =
     (refuse (ruleOut (old .rule)) Rule
     (refuse (limitOut (old .limit)) QueueLimit
     (refuse
-    (runShort (old .nodes) (length waiting) (length posted) (length sent) (length dropped)
-    || short kept (old .nodes * old .nodes) || short withdrawn (old .nodes * old .nodes) || short schedule (old .slots * old .nodes))
+    (runShort (old .nodes) (length waiting) (length posted) (length sent) (length dropped) || planShort (old .nodes) (old .slots) kept withdrawn schedule)
     TableShort
     (refuse (someCell (old .nodes * old .nodes) (firstDisagreeing (old .nodes) (old .limit) (old .posts) waiting posted sent dropped))
     (BooksDisagree (firstDisagreeing (old .nodes) (old .limit) (old .posts) waiting posted sent dropped))

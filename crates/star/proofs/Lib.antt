@@ -1,4 +1,6 @@
--- The laws of lines, slacks and refusals.
+-- The laws of lines and their crossings, of stores, slacks and refusals.
 pub mod SignedLaws
 pub mod LineLaws
+pub mod CrossingLaws
+pub mod StoreLaws
 pub mod RefusalLaws

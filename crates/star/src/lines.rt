@@ -1,13 +1,22 @@
 // Lines: rows and columns as one thing. Lines 0 to N-1 are the rows; line N+j is column j.
 use crate::tables::get;
+use crate::tables::put;
 ghost use mathlib.Core.Path.{_≡_};
-ghost use Prim.Native.Nat.{ℕ, _+_, _*_, _<_, _≤_};
-ghost use lib.ListN.{length, getD};
+ghost use Prim.Native.Nat.{_+_, _*_, _<_, _≤_};
+ghost use lib.ListN.{set};
 ghost use lib.IntN.{subℕ};
 ghost use lib.Signed.{mag};
 ghost use Rattle.star.specs.Tables.{Square, Demands};
-ghost use Rattle.star.specs.Lines.{onLine, lineSum, excessOf};
+ghost use Rattle.star.specs.Lines.{sourceOn, destinationOn, crossing, onLine, lineSum, excessOf};
 ghost use Rattle.star.specs.Refusals.{firstAbove};
+
+// The line that crosses a line at its t-th pair.
+pub fn crossing(n: usize, line: usize, t: usize) -> usize
+    requires { ⌜ (n ≤ 64) × (t < n) ⌝ }
+    ensures { λ r. ⌜ r ≡ crossing n line t ⌝ }
+{
+    if line < n { n + t } else { t }
+}
 
 // What the t-th pair of a line has.
 pub fn on_line(n: usize, table: &[u32], line: usize, t: usize) -> u32
@@ -19,6 +28,19 @@ pub fn on_line(n: usize, table: &[u32], line: usize, t: usize) -> u32
         get(n, table, line, t)
     } else {
         get(n, table, t, line - n)
+    }
+}
+
+// The t-th pair of a line has x from now on.
+pub fn put_on_line(n: usize, table: &mut [u32], line: usize, t: usize, x: u32)
+    requires { ⌜ Square n (now table) ⌝ }
+    requires { ⌜ (line < 2 * n) × (t < n) ⌝ }
+    ensures { λ _. ⌜ now (table .exit) ≡ set (now (table .entry)) (sourceOn n line t * n + destinationOn n line t) x ⌝ }
+{
+    if line < n {
+        put(n, table, line, t, x);
+    } else {
+        put(n, table, t, line - n, x);
     }
 }
 

@@ -1,8 +1,8 @@
-// Cells of a square table: the only places where a pair's index is computed.
+// Cells of a square table: the only places where a pair's index is computed; tables written from the front.
 ghost use mathlib.Core.Path.{_≡_};
-ghost use Prim.Native.Nat.{_+_, _*_, _<_};
-ghost use lib.ListN.{set, replicate};
-ghost use Rattle.sums.specs.Tables.{cell, written};
+ghost use Prim.Native.Nat.{_+_, _*_, _<_, _≤_};
+ghost use lib.ListN.{length, getD, set, replicate};
+ghost use Rattle.sums.specs.Tables.{cell, tab, written};
 ghost use Rattle.star.specs.Tables.{Square};
 
 // What the pair of source i and destination j has.
@@ -32,6 +32,18 @@ pub fn clear(n: usize, table: &mut [u32])
     let mut p = 0;
     while p < cells {
         table[p] = 0;
+        p += 1;
+    }
+}
+
+// The first cells of a table are those of another from now on.
+pub fn copy(from: &[u32], to: &mut [u32], cells: usize)
+    requires { ⌜ (cells ≤ length (now from)) × (cells ≤ length (now to)) ⌝ }
+    ensures { λ _. ⌜ now (to .exit) ≡ written cells (tab cells (λ p. getD (now (from .entry)) p 0)) (now (to .entry)) ⌝ }
+{
+    let mut p = 0;
+    while p < cells {
+        to[p] = from[p];
         p += 1;
     }
 }

@@ -1,13 +1,13 @@
 -- Tables written front to back: what a loop has written so far, read, stored one cell further, and at the end. The laws assume nothing.
-use Prim.Native.Nat.{ℕ, zero, suc, _+_, _≤_, _<_}
-use native.Mathlib.Nat.{add-zero}
+use Prim.Native.Nat.{ℕ, suc, _+_, _<_}
 use native.Mathlib.Omega.{arith}
 use mathlib.Core.Path.{_≡_, refl, sym, _∙_, ap}
-use mathlib.Core.List.{List, _++_}
-use lib.ListN.{length, getD, drop, set, replicate, length-set, length-replicate, getD-replicate}
-use lib.Seq.{ext-getD, getD-at, drop-cons}
+use mathlib.Core.List.{List, _++_, append-nil}
+use lib.ListN.{length, getD, drop, set, replicate, length-set, length-replicate, getD-replicate, drop-of-length-le}
+use lib.Seq.{ext-getD, getD-at, drop-cons, getD-set-same, getD-set-other}
 use Rattle.sums.specs.Tables.{tab, written}
-use Rattle.sums.proofs.Tables.{length-tab, tab-at, tab-more}
+use Rattle.sums.proofs.Cases.{by-eq}
+use Rattle.sums.proofs.Tables.{length-tab, tab-at, tab-more, written-at}
 
 -- the first p cells of old are written by the rule f, and t is the table now
 pub record Filled (p : ℕ) (f : ℕ → ℕ) (old t : List ℕ) : Type 0 where
@@ -41,3 +41,27 @@ tab-same m x =
     ext-getD 0 (tab m (λ p. x)) (replicate m x) (length-tab (λ p. x) m ∙ sym (length-replicate m x)) (λ i h.
     let lt : i < m = omega (arith, length-tab (λ p. x) m) in
     tab-at (λ p. x) m i 0 lt ∙ sym (getD-replicate m i x 0 lt))
+
+-- a cell that is written
+pub begun-at : (f : ℕ → ℕ) (m : ℕ) (o : List ℕ) (t : ℕ) → t < m → getD (tab m f ++ drop m o) t 0 ≡ f t
+unfolding written
+begun-at f m o t h = written-at m (tab m f) o (length-tab f m) t h ∙ tab-at f m t 0 h
+
+-- the same of a whole table, where it is cleared and where it is a copy
+pub cleared-at : (m : ℕ) (t o : List ℕ) → t ≡ written m (replicate m 0) o → (k : ℕ) → k < m → getD t k 0 ≡ 0
+cleared-at m t o e k h = ap (λ x. getD x k 0) e ∙ written-at m (replicate m 0) o (length-replicate m 0) k h ∙ getD-replicate m k 0 0 h
+
+pub copied-at : (m : ℕ) (s t o : List ℕ) → t ≡ written m (tab m (λ p. getD s p 0)) o → (k : ℕ) → k < m → getD t k 0 ≡ getD s k 0
+unfolding written
+copied-at m s t o e k h = ap (λ x. getD x k 0) e ∙ begun-at (λ p. getD s p 0) m o k h
+
+-- a store to the next cell, where only the cells written so far are known
+pub set-more : (f : ℕ → ℕ) (t : List ℕ) (i x : ℕ) → i < length t → x ≡ f i → ((k : ℕ) → k < i → getD t k 0 ≡ f k) → (k : ℕ) → k < i + 1 → getD (set t i x) k 0 ≡ f k
+set-more f t i x lt e before k h =
+    by-eq k i
+    (λ q. rw (q, getD-set-same t i x 0 lt) e)
+    (λ ne. getD-set-other t i k x 0 ne ∙ before k (omega arith))
+
+-- a table that is written to its end
+pub tab-whole : (f : ℕ → ℕ) (t o : List ℕ) (p : ℕ) → p ≡ length o → t ≡ tab p f ++ drop p o → t ≡ tab (length o) f
+tab-whole f t o p e h = h ∙ rw (e, drop-of-length-le o {i = length o} (omega arith), append-nil (tab (length o) f))

@@ -3,7 +3,7 @@ use Prim.Native.Nat.{ℕ, _+_, _≤_}
 use native.Mathlib.Omega.{arith}
 use mathlib.Core.Path.{_≡_, refl, sym}
 use mathlib.Core.Bool.{Bool, true, false, not}
-use Rattle.sums.specs.Sums.{sumTo, gate}
+use Rattle.sums.specs.Sums.{sumTo, bit, gate}
 use Rattle.sums.proofs.Sums.{sum-zero}
 
 pub sum-gate : (n : ℕ) (b : Bool) (f : ℕ → ℕ) → sumTo n (λ i. gate b (f i)) ≡ gate b (sumTo n f)
@@ -34,3 +34,12 @@ gate-drop false x h = sym (h refl)
 pub gate-zero : (b : Bool) (x : ℕ) → (b ≡ true → x ≡ 0) → gate b x ≡ 0
 gate-zero true x h = h refl
 gate-zero false x h = refl
+
+-- ---- a test as a number
+pub bit-most : (b : Bool) → bit b ≤ 1
+bit-most true = omega arith
+bit-most false = omega arith
+
+pub bit-one : (b : Bool) → bit b ≡ 1 → b ≡ true
+bit-one true e = refl
+bit-one false e = absurd (omega arith)

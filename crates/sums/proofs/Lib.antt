@@ -5,3 +5,4 @@ pub mod Gates
 pub mod Searches
 pub mod Tables
 pub mod Fills
+pub mod Fractions

@@ -1,11 +1,12 @@
--- The first number at which a test holds: what is found, what was passed, and what is so where nothing is found. The laws assume nothing.
+-- The first number at which a test holds: what is found, what was passed, and what is so where nothing is found; a test that holds at some number, or at
+-- each. The laws assume nothing.
 use Prim.Native.Nat.{ℕ, zero, suc, _+_, _≤_, _<_, zero-le}
 use native.Mathlib.Omega.{arith}
 use native.Mathlib.Nat.{zero-add}
 use mathlib.Core.Path.{_≡_, refl, sym, _∙_, ap}
-use mathlib.Core.Bool.{Bool, true, false, _||_, false≢true}
-use Rattle.sums.specs.Searches.{firstFrom, firstBelow, someBelow}
-use Rattle.sums.proofs.Cases.{by-eq, by-lt}
+use mathlib.Core.Bool.{Bool, true, false, _||_, _&&_}
+use Rattle.sums.specs.Searches.{firstFrom, firstBelow, someBelow, allBelow}
+use Rattle.sums.proofs.Cases.{by-eq}
 
 module _ (test : ℕ → Bool) where
   from-at : (left k at : ℕ) → k ≤ at → at < k + left → ((q : ℕ) → k ≤ q → q < at → test q ≡ false) → test at ≡ true → firstFrom left k test ≡ at
@@ -64,3 +65,21 @@ module _ (test : ℕ → Bool) where
       or-last : (b : Bool) {x : Bool} → x ≡ true → (b || x) ≡ true
       or-last true e = refl
       or-last false e = e
+
+-- the two tests of a test of both
+pub both-first : (a b : Bool) → (a && b) ≡ true → a ≡ true
+both-first true b e = refl
+both-first false b e = e
+
+pub both-second : (a b : Bool) → (a && b) ≡ true → b ≡ true
+both-second true b e = e
+both-second false b e = cc
+
+-- a test that holds at each number below n holds at this one
+pub all-at : (n : ℕ) (test : ℕ → Bool) → allBelow n test ≡ true → (i : ℕ) → i < n → test i ≡ true
+unfolding allBelow
+all-at zero test e i h = absurd (omega arith)
+all-at (suc n) test e i h =
+    by-eq i n
+    (λ s. ap test s ∙ both-first (test n) (allBelow n test) e)
+    (λ s. all-at n test (both-second (test n) (allBelow n test) e) i (omega arith))

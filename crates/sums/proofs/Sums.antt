@@ -1,5 +1,5 @@
 -- The laws of sums over a range: each by induction on the range and arithmetic. They assume nothing.
-use mathlib.Core.Path.{_≡_, refl, sym, ap, ap₂, _∙_}
+use mathlib.Core.Path.{_≡_, refl, sym, ap, _∙_}
 use mathlib.Core.Logic.{⊎-elim}
 use Prim.Native.Nat.{ℕ, zero, suc, _+_, _*_, _≤_, _<_}
 use native.Mathlib.Omega.{arith}
@@ -7,6 +7,7 @@ use native.Mathlib.Numerals.{add-one}
 use native.Mathlib.Nat.{eq-or-lt-of-le, le-of-suc-le-suc}
 use borrow.Author.Tests.{eq-eqb, ne-eqb}
 use Rattle.sums.specs.Sums.{sumTo, bit, hit}
+use Rattle.sums.proofs.Cases.{by-eq, by-lt}
 
 pub sum-ext : (n : ℕ) (f g : ℕ → ℕ) → ((k : ℕ) → k < n → f k ≡ g k) → sumTo n f ≡ sumTo n g
 unfolding sumTo
@@ -175,3 +176,36 @@ sum-all-zero n f h = sum-ext n f (λ k. 0) h ∙ sum-zero n
 -- each term of a sum that is 0 is 0
 pub sum-zero-at : (n : ℕ) (f : ℕ → ℕ) → sumTo n f ≡ 0 → (k : ℕ) → k < n → f k ≡ 0
 sum-zero-at n f e k lt = omega (arith, sum-at n f k lt)
+
+-- a range cut in two
+pub sum-split : (m n : ℕ) (f : ℕ → ℕ) → sumTo (m + n) f ≡ sumTo m f + sumTo n (λ k. f (m + k))
+sum-split m zero f = let e : m + 0 ≡ m = omega arith in rw e (omega (arith, sum-none (λ k. f (m + k))))
+sum-split m (suc n) f =
+    let e : m + suc n ≡ (m + n) + 1 = omega arith in
+    let g : suc n ≡ n + 1 = omega arith in
+    rw (e, g) (omega (arith, sum-split m n f, sum-more (m + n) f, sum-more n (λ k. f (m + k))))
+
+-- a term that is 1 where x is i, if x is i at one index at most
+pub sum-once : (n i : ℕ) (x : ℕ → ℕ) → ((k m : ℕ) → k < n → m < n → x k ≡ i → x m ≡ i → k ≡ m) → sumTo n (λ k. hit (x k) i) ≤ 1
+unfolding sumTo
+sum-once zero i x one = omega arith
+sum-once (suc n) i x one =
+    by-eq (x n) i
+    (λ e.
+    omega (
+      arith,
+      hit-same e,
+      sum-all-zero n (λ k. hit (x k) i) (λ k h. hit-other (λ q. let s : k ≡ n = one k n (omega arith) (omega arith) q e in omega arith)),
+    ))
+    (λ ne. omega (arith, hit-other ne, sum-once n i x (λ k m p q. one k m (omega arith) (omega arith))))
+
+-- at most one index is x
+pub sum-hit-most : (n x : ℕ) → sumTo n (λ k. hit x k) ≤ 1
+sum-hit-most n x =
+    by-lt x n
+    (λ h. omega (arith, sum-hit n x h))
+    (λ h. omega (arith, sum-all-zero n (λ k. hit x k) (λ k p. hit-other (λ q. omega arith))))
+
+-- a sum that is larger by its term at a
+pub sum-strict : (n a : ℕ) (f g : ℕ → ℕ) → a < n → ((k : ℕ) → k < n → f k + hit a k ≤ g k) → sumTo n f < sumTo n g
+sum-strict n a f g h more = omega (arith, sum-mono n (λ k. f k + hit a k) g more, sum-add n f (λ k. hit a k), sum-hit n a h)

@@ -4,6 +4,7 @@ use native.Mathlib.Nat.{mul-le-mul, mod-lt, div-add-mod', div-lt-iff-lt-mul}
 use native.Mathlib.Numerals.{add-one}
 use native.Mathlib.Omega.{arith}
 use mathlib.Core.Path.{_≡_, refl, sym, _∙_, ap}
+use mathlib.Core.Logic.{_⊎_, inl, inr}
 use mathlib.Core.List.{List, [], _∷_, _++_, append-assoc}
 use lib.Arith.{digits-lt, digits-div, digits-mod}
 use lib.ListN.{length, getD, take, drop, set, replicate, length-append, List·getD-append}
@@ -79,7 +80,20 @@ square-ext n s t ls lt same =
     let q = place-split n p (omega arith) in
     ap (λ x. getD s x 0) (sym (q .1 .1)) ∙ same (p / n) (p % n) (q .0) (q .1 .0) ∙ ap (λ x. getD t x 0) (q .1 .1))
 
+-- a table of n * n cells is the square of its cells
+pub square-same : (n : ℕ) (d : List ℕ) → length d ≡ n * n → square n (cell n d) ≡ d
+square-same n d e = square-ext n (square n (cell n d)) d (length-square n (cell n d)) e (square-cell n (cell n d))
+
+-- the first n * n cells of a table are the square of its cells
+pub tab-square : (n : ℕ) (d : List ℕ) → tab (n * n) (λ p. getD d p 0) ≡ square n (cell n d)
+unfolding square cell
+tab-square n d = tab-ext (n * n) _ _ (λ p h. ap (λ x. getD d x 0) (sym (div-add-mod' p n)))
+
 -- ---- stores
+-- what a table holds after a store
+pub at-set : (l : List ℕ) (j v k : ℕ) → j < length l → ((k ≡ j) × (getD (set l j v) k 0 ≡ v)) ⊎ ((k ≡ j → ⊥) × (getD (set l j v) k 0 ≡ getD l k 0))
+at-set l j v k h = by-eq k j (λ e. inl (e, ap (λ x. getD (set l j v) x 0) e ∙ getD-set-same l j v 0 h)) (λ e. inr (e, getD-set-other l j k v 0 e))
+
 module _ (n : ℕ) (t : List ℕ) (a j x : ℕ) (hj : j < n) where
   pub set-here : a * n + j < length t → cell n (set t (a * n + j) x) a j ≡ x
   unfolding cell
@@ -92,6 +106,10 @@ module _ (n : ℕ) (t : List ℕ) (a j x : ℕ) (hj : j < n) where
   pub set-col : (k v : ℕ) → v < n → (v ≡ j → ⊥) → cell n (set t (a * n + j) x) k v ≡ cell n t k v
   unfolding cell
   set-col k v hv ne = getD-set-other t (a * n + j) (k * n + v) x 0 (λ e. ne (place-col n k a v j hv hj e))
+
+  -- every other pair's cell stays
+  pub set-else : (k v : ℕ) → v < n → (k ≡ a → v ≡ j → ⊥) → cell n (set t (a * n + j) x) k v ≡ cell n t k v
+  set-else k v hv ne = by-eq k a (λ e. set-col k v hv (ne e)) (set-row k v hv)
 
 -- ---- a lent table
 module _ (m : ℕ) (new old : List ℕ) (fits : length new ≡ m) where

@@ -1,12 +1,13 @@
 -- The fourteen lines hold. The lines of one plan by computation, with marks for each A; a demand of nothing for every N and L; the run as it is played. Assumes nothing.
-use mathlib.Core.Path.{_≡_, refl}
+use mathlib.Core.Path.{refl}
 use mathlib.Core.List.{[], _∷_}
 use Rattle.sums.specs.Sums.{sumTo}
+use Rattle.sums.specs.Searches.{allBelow}
 use Rattle.sums.specs.Tables.{cell, tab, square}
 use Rattle.star.specs.Lines.{wholeFrame, lineSum, onLine, sourceOn, destinationOn, total, slack, excess}
 use Rattle.fair.specs.Fair.{fairKept, steps, step, uncut, taken, smaller, exceeds, numerator, modifiedSum, unmodifiedSum, modified, cutLine, cutCell}
 use Rattle.flow.specs.Flows.{cut}
-use Rattle.flow.proofs.Check.{all, below?, lines?, feasible?}
+use Rattle.flow.proofs.Check.{below?, lines?, feasible?}
 use Rattle.least.specs.Least.{keptFrom, keptCell, left, longer, share, remainder, missing, before, rank, shared}
 use Rattle.worked.specs.Worked.{WorkedLines}
 use Rattle.worked.proofs.Marks.{by-marks}
@@ -14,7 +15,7 @@ use Rattle.worked.proofs.Nothing.{nothing}
 use Rattle.worked.proofs.OneNode.{one-node}
 
 pub worked : WorkedLines
-unfolding sumTo cell tab square wholeFrame lineSum onLine sourceOn destinationOn total slack excess fairKept steps step uncut taken smaller exceeds numerator modifiedSum unmodifiedSum modified cutLine cutCell cut all below? lines? feasible? keptFrom keptCell left longer share remainder missing before rank shared
+unfolding sumTo cell tab square wholeFrame lineSum onLine sourceOn destinationOn total slack excess fairKept steps step uncut taken smaller exceeds numerator modifiedSum unmodifiedSum modified cutLine cutCell cut allBelow below? lines? feasible? keptFrom keptCell left longer share remainder missing before rank shared
 worked = record {
   a-fair = record { keeps = refl; refuses = refl };
   a-least = record { withdraws = by-marks _ _ _ _ (0 ∷ 0 ∷ []) refl refl; keeps = refl; refuses = refl };

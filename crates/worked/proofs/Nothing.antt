@@ -1,80 +1,39 @@
--- Where nothing is asked nothing is kept, every byte is idle and nothing changes, under either rule; and there is such a plan. No line exceeds, so
--- neither rule cuts; a byte that named a source would count a slot for it. Assumes nothing.
-use Prim.Native.Nat.{ℕ, zero, suc, _+_, _-_, _*_, _≤_, _<_, zero-le}
+-- Where nothing is asked nothing is kept, every byte is idle and nothing changes, under either rule; and there is such a plan. Neither rule keeps more
+-- than is asked; a byte that named a source would count a slot for it. Assumes nothing.
+use Prim.Native.Nat.{ℕ, suc, _+_, _-_, _*_, _≤_, _<_}
 use native.Mathlib.Omega.{arith}
 use mathlib.Core.Path.{_≡_, refl, sym, _∙_, ap}
-use mathlib.Core.Logic.{⊎-elim, _⊎_, inl, inr}
-use mathlib.Core.Bool.{Bool, true, false, not, cond}
+use mathlib.Core.Logic.{⊎-elim, inr}
+use mathlib.Core.Bool.{not}
 use mathlib.Core.List.{List}
-use lib.ListN.{length, getD, take, replicate, length-replicate, getD-replicate}
+use lib.ListN.{length, take, replicate, length-replicate, getD-replicate}
 use lib.Arith.{digits-lt}
 use lib.Seq.{take-all}
-use lib.Dec.{ltb, eqb}
-use borrow.Author.Tests.{le-ltb, eq-eqb}
-use Rattle.sums.specs.Sums.{sumTo, bit, hit}
-use Rattle.sums.specs.Tables.{cell, square}
+use borrow.Author.Tests.{eq-eqb}
+use Rattle.sums.specs.Sums.{bit, hit}
+use Rattle.sums.specs.Tables.{cell}
 use Rattle.sums.proofs.Sums.{sum-at, sum-all-zero, hit-same, hit-other}
 use Rattle.sums.proofs.Cases.{by-eq}
 use Rattle.sums.proofs.Searches.{some-none}
-use Rattle.sums.proofs.Tables.{cell-lt, square-cell, length-square, square-ext, take-cell}
-use Rattle.star.specs.Lines.{lineSum, total, wholeFrame, excess}
-use Rattle.star.specs.Schedules.{ConflictFree, Carries, count, differ, reconfigurations}
-use Rattle.star.proofs.LineLaws.{line-zero, excess-is, total-rows}
-use Rattle.fair.specs.Fair.{Cutting, fairKept, uncut, steps, step, taken, exceeds}
-use Rattle.least.specs.Least.{Withdrawn, Greatest, keptFrom, keptCell, left, longer}
+use Rattle.sums.proofs.Tables.{cell-lt, square-ext, take-cell}
+use Rattle.star.specs.Lines.{total, wholeFrame}
+use Rattle.star.specs.Schedules.{Carries, count, differ, reconfigurations}
+use Rattle.star.proofs.LineLaws.{line-zero}
+use Rattle.fair.specs.Fair.{fairKept}
+use Rattle.fair.proofs.Steps.{fair-length, fair-below}
+use Rattle.least.specs.Least.{Greatest, keptFrom}
+use Rattle.least.proofs.Keeping.{length-kept, kept-below}
 use Rattle.planner.specs.Plans.{Plan}
 use Rattle.worked.specs.Worked.{NothingAsked}
 
--- ---- the fair rule, where no line exceeds
-module _ (n : ℕ) (cap d : List ℕ) (none : (ℓ : ℕ) → ℓ < 2 * n → exceeds n cap (uncut n d) ℓ ≡ false) where
-  none-taken : (m : ℕ) → m ≤ 2 * n → taken n cap (uncut n d) m ≡ 2 * n
-  unfolding taken
-  none-taken zero h = refl
-  none-taken (suc m) h = rw (none m (omega arith)) (none-taken m (omega arith))
-
-  stays : step n cap (uncut n d) ≡ uncut n d
-  unfolding step
-  stays = rw (none-taken (2 * n) (omega arith), le-ltb (2 * n) (2 * n) (omega arith)) refl
-
-  all-stay : (m : ℕ) → steps n cap (uncut n d) m ≡ uncut n d
-  unfolding steps
-  all-stay zero = refl
-  all-stay (suc m) = ap (step n cap) (all-stay m) ∙ stays
-
-  uncut-kept : fairKept n cap d ≡ square n (cell n d)
-  unfolding fairKept uncut
-  uncut-kept = ap (λ s. s .values) (all-stay (2 * n))
-
+-- ---- what is kept
+-- neither rule keeps more than is asked
 module _ (n : ℕ) (cap d : List ℕ) (zeros : (i j : ℕ) → i < n → j < n → cell n d i j ≡ 0) where
-  uncut-nothing : (ℓ : ℕ) → ℓ < 2 * n → exceeds n cap (uncut n d) ℓ ≡ false
-  unfolding exceeds uncut
-  uncut-nothing ℓ h =
-      le-ltb (getD cap ℓ 0) (lineSum n (square n (cell n d)) ℓ)
-      (omega (arith, line-zero n (square n (cell n d)) (λ i j p q. square-cell n (cell n d) i j p q ∙ zeros i j p q) ℓ h))
-
-  fair-length : length (fairKept n cap d) ≡ n * n
-  fair-length = ap length (uncut-kept n cap d uncut-nothing) ∙ length-square n (cell n d)
-
   fair-nothing : (i j : ℕ) → i < n → j < n → cell n (fairKept n cap d) i j ≡ 0
-  fair-nothing i j hi hj = ap (λ k. cell n k i j) (uncut-kept n cap d uncut-nothing) ∙ square-cell n (cell n d) i j hi hj ∙ zeros i j hi hj
-
-  left-nothing : (a : List ℕ) (i j : ℕ) → i < n → j < n → cell n (left n d a) i j ≡ 0
-  unfolding left
-  left-nothing a i j hi hj = square-cell n (λ i j. cell n d i j - cell n a i j) i j hi hj ∙ omega (arith, zeros i j hi hj)
-
-  not-longer : (a : List ℕ) (ℓ : ℕ) → ℓ < 2 * n → longer n cap (left n d a) ℓ ≡ false
-  unfolding longer
-  not-longer a ℓ h = le-ltb (getD cap ℓ 0) (lineSum n (left n d a) ℓ) (omega (arith, line-zero n (left n d a) (left-nothing a) ℓ h))
+  fair-nothing i j hi hj = omega (arith, fair-below n cap d i j hi hj, zeros i j hi hj)
 
   least-nothing : (a : List ℕ) (i j : ℕ) → i < n → j < n → cell n (keptFrom n cap d a) i j ≡ 0
-  unfolding keptFrom keptCell
-  least-nothing a i j hi hj =
-      square-cell n (keptCell n cap (left n d a)) i j hi hj
-      ∙ rw (not-longer a i (omega arith), not-longer a (n + j) (omega arith), keptCell) (left-nothing a i j hi hj)
-
-kept-length : (n : ℕ) (cap d a : List ℕ) → length (keptFrom n cap d a) ≡ n * n
-unfolding keptFrom
-kept-length n cap d a = length-square n (keptCell n cap (left n d a))
+  least-nothing a i j hi hj = omega (arith, kept-below n cap d a i j hi hj, zeros i j hi hj)
 
 -- ---- the schedule
 -- a byte that names a source counts a slot for it
@@ -139,8 +98,8 @@ nothing n l rule d n1 n64 l1 l1024 known zeros = record {
   idles = λ k a s p. idle n l s k (p .carried) (kept k a s p);
   stays = λ k a s p. unchanged n l s k (p .carried) (kept k a s p);
   planned = record {
-    fair = λ e. (all-zeros n (fairKept n cap d) (fair-length n cap d zeros) (fair-nothing n cap d zeros), take-all (n * n) (replicate (n * n) 0) (omega (arith, length-replicate {A = ℕ} (n * n) 0)));
-    least = λ e. (greatest n l cap d n64 zeros, all-zeros n (keptFrom n cap d (replicate (n * n) 0)) (kept-length n cap d (replicate (n * n) 0)) (least-nothing n cap d zeros (replicate (n * n) 0)));
+    fair = λ e. (all-zeros n (fairKept n cap d) (fair-length n cap d) (fair-nothing n cap d zeros), take-all (n * n) (replicate (n * n) 0) (omega (arith, length-replicate {A = ℕ} (n * n) 0)));
+    least = λ e. (greatest n l cap d n64 zeros, all-zeros n (keptFrom n cap d (replicate (n * n) 0)) (length-kept n cap d (replicate (n * n) 0)) (least-nothing n cap d zeros (replicate (n * n) 0)));
     carried = carries n l cap d n64 zeros;
   };
 }

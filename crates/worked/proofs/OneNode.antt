@@ -1,17 +1,15 @@
 -- The run of one node: each call's answer and tables are computed in turn; the one cell of A is forced, since a greatest A takes the whole
 -- excess. So the tables end as stated however A and the slots are chosen, and the run that is played shows that there is one. Assumes nothing.
-use Prim.Native.Nat.{ℕ, zero, suc, _+_, _-_, _*_, _≤_, _<_, min}
+use Prim.Native.Nat.{ℕ, _+_, _-_, _*_, _≤_, min}
 use native.Mathlib.Omega.{arith}
 use mathlib.Core.Path.{_≡_, refl, sym, _∙_, ap, subst}
 use mathlib.Core.Logic.{inl}
-use mathlib.Core.Bool.{Bool, true, false, _||_}
-use mathlib.Core.List.{List, [], _∷_, _++_}
-use lib.ListN.{length, getD, take, replicate, getD-replicate}
+use mathlib.Core.List.{List, [], _∷_}
+use lib.ListN.{length, getD, getD-replicate}
 use lib.Seq.{getD-take}
-use lib.Dec.{ltb, leb}
-use borrow.Author.Tests.{le-ltb, leb-true}
+use borrow.Author.Tests.{le-ltb}
 use Rattle.sums.specs.Sums.{sumTo, hit}
-use Rattle.sums.specs.Searches.{firstFrom, firstBelow, someBelow}
+use Rattle.sums.specs.Searches.{firstFrom, firstBelow, someBelow, allBelow}
 use Rattle.sums.specs.Tables.{cell, tab, square, written}
 use Rattle.star.specs.declared.refusals.Verdict.{Verdict}
 use Rattle.star.specs.declared.refusals.Verdict.the-variants.{Accepted}
@@ -19,14 +17,14 @@ use Rattle.star.specs.Refusals.{refuse, firstAbove}
 use Rattle.star.specs.Lines.{wholeFrame, lineSum, onLine, sourceOn, destinationOn, total, slack, excess}
 use Rattle.star.specs.Schedules.{Carries, count, differ, reconfigurations}
 use Rattle.flow.specs.Flows.{cut}
-use Rattle.flow.proofs.Check.{all, below?, lines?, feasible?}
+use Rattle.flow.proofs.Check.{below?, lines?, feasible?}
 use Rattle.least.specs.Least.{Greatest, keptFrom, keptCell, left, longer, share, remainder, missing, before, rank, shared}
 use Rattle.planner.specs.declared.answers.Answer.{Answer}
 use Rattle.planner.specs.declared.answers.Answer.the-variants.{Planned}
-use Rattle.planner.specs.Plans.{verdictOf, Wrote}
+use Rattle.planner.specs.Plans.{verdictOf}
 use Rattle.run.specs.declared.record.Run.{Run}
 use Rattle.run.specs.Books.{booksAgree, firstDisagreeing}
-use Rattle.run.specs.Runs.{freshVerdict, freshRun, cleared, postVerdict, postRun, postPosted, postDropped, postWaiting, frameVerdict, frameRun, Framed}
+use Rattle.run.specs.Runs.{freshVerdict, freshRun, cleared, postVerdict, postRun, postPosted, postDropped, postWaiting, frameVerdict, frameRun}
 use Rattle.run.specs.Calls.{Held, FreshCall, PostCall, FrameCall}
 use Rattle.worked.specs.Worked.{RunLine, start}
 use Rattle.worked.proofs.Marks.{by-marks}
@@ -111,11 +109,11 @@ frame-accepted x posts frames p s d k a b hk ha hb e = simp (le-ltb (length k) 1
 
 -- A for a queue of 6, and for one of 5
 six : Greatest 1 (wholeFrame 1 4) (6 ∷ []) (2 ∷ [])
-unfolding all below? lines? feasible? cut excess slack wholeFrame lineSum onLine sourceOn destinationOn sumTo cell tab total
+unfolding allBelow below? lines? feasible? cut excess slack wholeFrame lineSum onLine sourceOn destinationOn sumTo cell tab total
 six = by-marks 1 4 (6 ∷ []) (2 ∷ []) (0 ∷ 0 ∷ []) refl refl
 
 five : Greatest 1 (wholeFrame 1 4) (5 ∷ []) (1 ∷ [])
-unfolding all below? lines? feasible? cut excess slack wholeFrame lineSum onLine sourceOn destinationOn sumTo cell tab total
+unfolding allBelow below? lines? feasible? cut excess slack wholeFrame lineSum onLine sourceOn destinationOn sumTo cell tab total
 five = by-marks 1 4 (5 ∷ []) (1 ∷ []) (0 ∷ 0 ∷ []) refl refl
 
 -- ---- the run that is played

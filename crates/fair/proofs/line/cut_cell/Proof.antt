@@ -1,6 +1,6 @@
 -- `cut_cell` makes the three stores of its contract. The share is at most the cell, and the cell at most a of the line that crosses, so nothing wraps. Assumes nothing.
-use Rattle.fair.proofs.Fractions.{floor-less}
-use Rattle.fair.proofs.Crossings.{crossing-lt}
+use Rattle.sums.proofs.Fractions.{floor-less}
+use Rattle.star.proofs.CrossingLaws.{crossing-lt}
 use native.Mathlib.Nat.{mul-le-mul}
 use Prim.Native.Nat.{_*_, _/_}
 use lib.ListN.{getD}

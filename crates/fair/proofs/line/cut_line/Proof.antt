@@ -1,6 +1,6 @@
 -- `cut_line` cuts a line and keeps all sums: after t turns the line is cut as far as its first t pairs (`Partway`). Assumes nothing.
 use Rattle.fair.proofs.Partway.{Partway, partway-start, partway-pass, partway-turn, b-within, line-uncut, sum-fits, own-b, can-cut-cell, line-cut}
-use Rattle.fair.proofs.Crossings.{crossing-lt}
+use Rattle.star.proofs.CrossingLaws.{crossing-lt}
 use Rattle.fair.specs.Cuts.{cutting}
 use lib.ListN.{length-set}
 use native.Mathlib.Omega.{arith}

@@ -1,5 +1,5 @@
 -- `cut` lends the first n * n cells, so that the others stay as they are. Assumes nothing.
-use Rattle.fair.proofs.Stores.{take-replicate}
+use Rattle.sums.proofs.Tables.{take-replicate}
 use Rattle.sums.specs.Tables.{written}
 use lib.Seq.{length-take-le}
 use native.Mathlib.Omega.{arith}

@@ -6,6 +6,9 @@ use borrow.Author.Needs.{needs}
 use Rattle.fair.proofs.rule.cut_exactly.Statement.{statement}
 use Rattle.fair.proofs.rule.cut_exactly.Tie as tie
 
+mul-copy : tie.Need-mul-copy
+mul-copy c = search needs
+
 copy-requires : tie.Need-copy-requires
 copy-requires c κs = search needs
 
@@ -13,7 +16,9 @@ slice-aggregate-line-sums : tie.Need-slice-aggregate-line-sums
 slice-aggregate-line-sums c = search needs
 
 line-sums-requires : tie.Need-line-sums-requires
-line-sums-requires c κs = search needs
+line-sums-requires c κs =
+    let asked = c .before .before .before .before .before .before .before .before .before .pre in
+    (asked .square, (asked .demands, omega (arith, asked .square .nodes)))
 
 slice-aggregate-cut-all : tie.Need-slice-aggregate-cut-all
 slice-aggregate-cut-all c = search needs
@@ -37,6 +42,7 @@ pub cut-exactly-spec : {M : Type 1} → statement M
 cut-exactly-spec =
     tie.close
     (tie.spec
+    mul-copy
     copy-requires
     slice-aggregate-line-sums
     line-sums-requires

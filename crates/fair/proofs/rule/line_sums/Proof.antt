@@ -1,6 +1,6 @@
 -- `line_sums` writes the sum of each line: after some turns those of the lines passed. Assumes nothing.
 use lib.ListN.{length-set}
-use Rattle.fair.proofs.Stores.{set-more}
+use Rattle.sums.proofs.Fills.{set-more}
 use borrow.Author.Needs.{needs}
 use Rattle.star.specs.Lines.{lineSum}
 use lib.ListN.{length, getD}

@@ -6,7 +6,7 @@ use mathlib.Core.Path.{_≡_, refl, _∙_}
 use lib.ListN.{length, length-set}
 use borrow.Fn.Kinds.{In}
 use borrow.Fn.PlainCycle.{Measures, is, falls, and}
-use Rattle.levels.proofs.pairs.cross.Reads as cross-reads
+use Rattle.star.proofs.lines.crossing.Reads as crossing-reads
 use Rattle.flow.proofs.Moves.{Drawing, own-drawn, drawing-start, drawing-skip, drawing-step, drawing-full, drawing-end, roomy-now, can-lower, can-pass}
 use Rattle.flow.proofs.draw.+draw.{statement}
 use Rattle.flow.proofs.draw.+draw.Tie.{close}
@@ -37,8 +37,8 @@ draw-draw-own-requires : (t : ℕ) → draw-lts.Need-draw-own-requires (
   draw-own-reads.Learnt,
   drawable-reads.Asked,
   drawable-reads.Learnt,
-  cross-reads.Asked,
-  cross-reads.Learnt,
+  crossing-reads.Asked,
+  crossing-reads.Learnt,
   draw-below t,
   draw.Post,
   pass-reads.Asked,
@@ -51,8 +51,8 @@ draw-same-length : (t : ℕ) → draw-lts.Need-same-length (
   draw-own-reads.Learnt,
   drawable-reads.Asked,
   drawable-reads.Learnt,
-  cross-reads.Asked,
-  cross-reads.Learnt,
+  crossing-reads.Asked,
+  crossing-reads.Learnt,
   draw-below t,
   draw.Post,
   pass-reads.Asked,
@@ -65,8 +65,8 @@ draw-returns : (t : ℕ) → draw-lts.Need-returns (
   draw-own-reads.Learnt,
   drawable-reads.Asked,
   drawable-reads.Learnt,
-  cross-reads.Asked,
-  cross-reads.Learnt,
+  crossing-reads.Asked,
+  crossing-reads.Learnt,
   draw-below t,
   draw.Post,
   pass-reads.Asked,
@@ -83,8 +83,8 @@ draw-loop-holds : (t : ℕ) → draw-lts.Need-loop-holds (
   draw-own-reads.Learnt,
   drawable-reads.Asked,
   drawable-reads.Learnt,
-  cross-reads.Asked,
-  cross-reads.Learnt,
+  crossing-reads.Asked,
+  crossing-reads.Learnt,
   draw-below t,
   draw.Post,
   pass-reads.Asked,
@@ -97,8 +97,8 @@ draw-sub-drawable : (t : ℕ) → draw-lts.Need-sub-drawable (
   draw-own-reads.Learnt,
   drawable-reads.Asked,
   drawable-reads.Learnt,
-  cross-reads.Asked,
-  cross-reads.Learnt,
+  crossing-reads.Asked,
+  crossing-reads.Learnt,
   draw-below t,
   draw.Post,
   pass-reads.Asked,
@@ -111,8 +111,8 @@ draw-drawable-requires : (t : ℕ) → draw-lts.Need-drawable-requires (
   draw-own-reads.Learnt,
   drawable-reads.Asked,
   drawable-reads.Learnt,
-  cross-reads.Asked,
-  cross-reads.Learnt,
+  crossing-reads.Asked,
+  crossing-reads.Learnt,
   draw-below t,
   draw.Post,
   pass-reads.Asked,
@@ -129,8 +129,8 @@ draw-add-t : (t : ℕ) → draw-lts.Need-add-t (
   draw-own-reads.Learnt,
   drawable-reads.Asked,
   drawable-reads.Learnt,
-  cross-reads.Asked,
-  cross-reads.Learnt,
+  crossing-reads.Asked,
+  crossing-reads.Learnt,
   draw-below t,
   draw.Post,
   pass-reads.Asked,
@@ -143,8 +143,8 @@ draw-loop-less : (t : ℕ) → draw-lts.Need-loop-less (
   draw-own-reads.Learnt,
   drawable-reads.Asked,
   drawable-reads.Learnt,
-  cross-reads.Asked,
-  cross-reads.Learnt,
+  crossing-reads.Asked,
+  crossing-reads.Learnt,
   draw-below t,
   draw.Post,
   pass-reads.Asked,
@@ -157,8 +157,8 @@ draw-loop-again : (t : ℕ) → draw-lts.Need-loop-again (
   draw-own-reads.Learnt,
   drawable-reads.Asked,
   drawable-reads.Learnt,
-  cross-reads.Asked,
-  cross-reads.Learnt,
+  crossing-reads.Asked,
+  crossing-reads.Learnt,
   draw-below t,
   draw.Post,
   pass-reads.Asked,
@@ -168,19 +168,19 @@ draw-loop-again t c =
     let turn = c .before .before .before .before .before .loop in
     (omega arith, turn .inv .1, turn .inv .2, turn .inv .3, drawing-skip (turn .inv .4) (c .before .drawable .ensures .none (c .if2 .taken)))
 
-draw-cross-requires : (t : ℕ) → draw-lts.Need-cross-requires (
+draw-crossing-requires : (t : ℕ) → draw-lts.Need-crossing-requires (
   draw-own-reads.Asked,
   draw-own-reads.Learnt,
   drawable-reads.Asked,
   drawable-reads.Learnt,
-  cross-reads.Asked,
-  cross-reads.Learnt,
+  crossing-reads.Asked,
+  crossing-reads.Learnt,
   draw-below t,
   draw.Post,
   pass-reads.Asked,
   pass-reads.Learnt,
 ) (draw-at t) draw.Post draw-Inv-loop draw-μ-loop
-draw-cross-requires t c κs =
+draw-crossing-requires t c κs =
     let asked = c .before .before .before .before .before .before .before .before .before .before .before .before .before .before .pre in
     let asked = asked in
     (asked .1 .roomy .below .cells .nodes, omega arith)
@@ -190,8 +190,8 @@ draw-sub-draw : (t : ℕ) → draw-lts.Need-sub-draw (
   draw-own-reads.Learnt,
   drawable-reads.Asked,
   drawable-reads.Learnt,
-  cross-reads.Asked,
-  cross-reads.Learnt,
+  crossing-reads.Asked,
+  crossing-reads.Learnt,
   draw-below t,
   draw.Post,
   pass-reads.Asked,
@@ -204,8 +204,8 @@ draw-draw-requires : (t : ℕ) → draw-lts.Need-draw-requires (
   draw-own-reads.Learnt,
   drawable-reads.Asked,
   drawable-reads.Learnt,
-  cross-reads.Asked,
-  cross-reads.Learnt,
+  crossing-reads.Asked,
+  crossing-reads.Learnt,
   draw-below t,
   draw.Post,
   pass-reads.Asked,
@@ -217,15 +217,15 @@ draw-draw-requires t c κs =
     let loop-test-said = c .before .before .before .before .before .before .before .before .loop-test in
     let if2 = c .before .before .before .before .if2 in
     let if1 = c .before .before .before .before .before .before .before .before .before .before .if1 in
-    (omega (arith, asked .0, asked .1 .reached), rw (c .cross .ensures) (can-lower (turn .inv .4) (asked .1) (turn .inv .1) (turn .inv .2) (turn .inv .3) (loop-test-said .taken) (omega (arith, if2 .left)) (omega (arith, asked .1 .reached, if1 .left)) (c .before .before .before .before .before .drawable .ensures .lower (omega (arith, if2 .left))) (omega (arith, asked .1 .reached))))
+    (omega (arith, asked .0, asked .1 .reached), rw (c .crossing .ensures) (can-lower (turn .inv .4) (asked .1) (turn .inv .1) (turn .inv .2) (turn .inv .3) (loop-test-said .taken) (omega (arith, if2 .left)) (omega (arith, asked .1 .reached, if1 .left)) (c .before .before .before .before .before .drawable .ensures .lower (omega (arith, if2 .left))) (omega (arith, asked .1 .reached))))
 
 draw-pass-requires : (t : ℕ) → draw-lts.Need-pass-requires (
   draw-own-reads.Asked,
   draw-own-reads.Learnt,
   drawable-reads.Asked,
   drawable-reads.Learnt,
-  cross-reads.Asked,
-  cross-reads.Learnt,
+  crossing-reads.Asked,
+  crossing-reads.Learnt,
   draw-below t,
   draw.Post,
   pass-reads.Asked,
@@ -235,19 +235,19 @@ draw-pass-requires t c κs =
     let asked = c .before .before .before .before .before .before .before .before .before .before .before .before .before .before .before .before .before .before .before .before .before .before .before .pre in
     let draw-said = c .before .before .before .before .before .before .before .draw in
     let turn = c .before .before .before .before .before .before .before .before .before .before .before .before .before .before .before .before .before .loop in
-    let cross-said = c .before .before .before .before .before .before .before .before .cross in
+    let crossing-said = c .before .before .before .before .before .before .before .before .crossing in
     let loop-test-said = c .before .before .before .before .before .before .before .before .before .before .before .before .before .before .before .before .loop-test in
     let drawable-said = c .before .before .before .before .before .before .before .before .before .before .before .before .before .drawable in
     let if2 = c .before .before .before .before .before .before .before .before .before .before .before .before .if2 in
-    (record { nodes = asked .1 .roomy .below .cells .nodes; cells = omega (arith, draw-said .kept .1 .1 .0, turn .inv .1, asked .1 .roomy .below .cells .cells) }, can-pass (turn .inv .4) (rw (cross-said .ensures) at (draw-said .ensures)) (asked .1 .line) (loop-test-said .taken) (drawable-said .ensures .lower (omega (arith, if2 .left))) (omega (arith, asked .1 .reached)) (drawable-said .ensures .can) (omega (arith, draw-said .kept .1 .1 .0, turn .inv .1, asked .1 .roomy .below .cells .cells)) (asked .1 .roomy .demands))
+    (record { nodes = asked .1 .roomy .below .cells .nodes; cells = omega (arith, draw-said .kept .1 .1 .0, turn .inv .1, asked .1 .roomy .below .cells .cells) }, can-pass (turn .inv .4) (rw (crossing-said .ensures) at (draw-said .ensures)) (asked .1 .line) (loop-test-said .taken) (drawable-said .ensures .lower (omega (arith, if2 .left))) (omega (arith, asked .1 .reached)) (drawable-said .ensures .can) (omega (arith, draw-said .kept .1 .1 .0, turn .inv .1, asked .1 .roomy .below .cells .cells)) (asked .1 .roomy .demands))
 
 draw-add-got : (t : ℕ) → draw-lts.Need-add-got (
   draw-own-reads.Asked,
   draw-own-reads.Learnt,
   drawable-reads.Asked,
   drawable-reads.Learnt,
-  cross-reads.Asked,
-  cross-reads.Learnt,
+  crossing-reads.Asked,
+  crossing-reads.Learnt,
   draw-below t,
   draw.Post,
   pass-reads.Asked,
@@ -269,8 +269,8 @@ draw-same-length-2 : (t : ℕ) → draw-lts.Need-same-length-2 (
   draw-own-reads.Learnt,
   drawable-reads.Asked,
   drawable-reads.Learnt,
-  cross-reads.Asked,
-  cross-reads.Learnt,
+  crossing-reads.Asked,
+  crossing-reads.Learnt,
   draw-below t,
   draw.Post,
   pass-reads.Asked,
@@ -288,8 +288,8 @@ draw-same-length-3 : (t : ℕ) → draw-lts.Need-same-length-3 (
   draw-own-reads.Learnt,
   drawable-reads.Asked,
   drawable-reads.Learnt,
-  cross-reads.Asked,
-  cross-reads.Learnt,
+  crossing-reads.Asked,
+  crossing-reads.Learnt,
   draw-below t,
   draw.Post,
   pass-reads.Asked,
@@ -307,8 +307,8 @@ draw-same-length-4 : (t : ℕ) → draw-lts.Need-same-length-4 (
   draw-own-reads.Learnt,
   drawable-reads.Asked,
   drawable-reads.Learnt,
-  cross-reads.Asked,
-  cross-reads.Learnt,
+  crossing-reads.Asked,
+  crossing-reads.Learnt,
   draw-below t,
   draw.Post,
   pass-reads.Asked,
@@ -326,8 +326,8 @@ draw-returns-2 : (t : ℕ) → draw-lts.Need-returns-2 (
   draw-own-reads.Learnt,
   drawable-reads.Asked,
   drawable-reads.Learnt,
-  cross-reads.Asked,
-  cross-reads.Learnt,
+  crossing-reads.Asked,
+  crossing-reads.Learnt,
   draw-below t,
   draw.Post,
   pass-reads.Asked,
@@ -335,21 +335,21 @@ draw-returns-2 : (t : ℕ) → draw-lts.Need-returns-2 (
 ) (draw-at t) draw.Post draw-Inv-loop draw-μ-loop
 draw-returns-2 t c =
     let turn = c .before .before .before .before .before .before .before .before .before .before .before .before .before .before .before .before .before .before .before .before .before .loop in
-    let cross-said = c .before .before .before .before .before .before .before .before .before .before .before .before .cross in
+    let crossing-said = c .before .before .before .before .before .before .before .before .before .before .before .before .crossing in
     let draw-said = c .before .before .before .before .before .before .before .before .before .before .before .draw in
     let asked = c .before .before .before .before .before .before .before .before .before .before .before .before .before .before .before .before .before .before .before .before .before .before .before .before .before .before .before .pre in
     let loop-test-said = c .before .before .before .before .before .before .before .before .before .before .before .before .before .before .before .before .before .before .before .before .loop-test in
     let drawable-said = c .before .before .before .before .before .before .before .before .before .before .before .before .before .before .before .before .before .drawable in
     let if2 = c .before .before .before .before .before .before .before .before .before .before .before .before .before .before .before .before .if2 in
-    rw (c .before .before .before .pass .ensures) (drawing-full (turn .inv .4) (rw (cross-said .ensures) at (draw-said .ensures)) (asked .1 .line) (loop-test-said .taken) (drawable-said .ensures .lower (omega (arith, if2 .left))) (omega (arith, asked .1 .reached)) (drawable-said .ensures .can) (omega (arith, draw-said .kept .1 .1 .0, turn .inv .1, asked .1 .roomy .below .cells .cells)) (c .if3 .taken))
+    rw (c .before .before .before .pass .ensures) (drawing-full (turn .inv .4) (rw (crossing-said .ensures) at (draw-said .ensures)) (asked .1 .line) (loop-test-said .taken) (drawable-said .ensures .lower (omega (arith, if2 .left))) (omega (arith, asked .1 .reached)) (drawable-said .ensures .can) (omega (arith, draw-said .kept .1 .1 .0, turn .inv .1, asked .1 .roomy .below .cells .cells)) (c .if3 .taken))
 
 draw-add-t-2 : (t : ℕ) → draw-lts.Need-add-t-2 (
   draw-own-reads.Asked,
   draw-own-reads.Learnt,
   drawable-reads.Asked,
   drawable-reads.Learnt,
-  cross-reads.Asked,
-  cross-reads.Learnt,
+  crossing-reads.Asked,
+  crossing-reads.Learnt,
   draw-below t,
   draw.Post,
   pass-reads.Asked,
@@ -362,8 +362,8 @@ draw-loop-less-2 : (t : ℕ) → draw-lts.Need-loop-less-2 (
   draw-own-reads.Learnt,
   drawable-reads.Asked,
   drawable-reads.Learnt,
-  cross-reads.Asked,
-  cross-reads.Learnt,
+  crossing-reads.Asked,
+  crossing-reads.Learnt,
   draw-below t,
   draw.Post,
   pass-reads.Asked,
@@ -376,8 +376,8 @@ draw-loop-again-2 : (t : ℕ) → draw-lts.Need-loop-again-2 (
   draw-own-reads.Learnt,
   drawable-reads.Asked,
   drawable-reads.Learnt,
-  cross-reads.Asked,
-  cross-reads.Learnt,
+  crossing-reads.Asked,
+  crossing-reads.Learnt,
   draw-below t,
   draw.Post,
   pass-reads.Asked,
@@ -388,19 +388,19 @@ draw-loop-again-2 t c =
     let pass-said = c .before .before .before .pass in
     let draw-said = c .before .before .before .before .before .before .before .before .before .before .before .draw in
     let turn = c .before .before .before .before .before .before .before .before .before .before .before .before .before .before .before .before .before .before .before .before .before .loop in
-    let cross-said = c .before .before .before .before .before .before .before .before .before .before .before .before .cross in
+    let crossing-said = c .before .before .before .before .before .before .before .before .before .before .before .before .crossing in
     let asked = c .before .before .before .before .before .before .before .before .before .before .before .before .before .before .before .before .before .before .before .before .before .before .before .before .before .before .before .pre in
     let drawable-said = c .before .before .before .before .before .before .before .before .before .before .before .before .before .before .before .before .before .drawable in
     let if2 = c .before .before .before .before .before .before .before .before .before .before .before .before .before .before .before .before .if2 in
-    (omega (arith, loop-test-said .taken), pass-said .kept .1 .0 ∙ draw-said .kept .1 .1 .0 ∙ turn .inv .1, draw-said .kept .1 .1 .1 .0 ∙ turn .inv .2, draw-said .kept .1 .1 .1 .1 .0 ∙ turn .inv .3, rw (pass-said .ensures) (drawing-step (turn .inv .4) (rw (cross-said .ensures) at (draw-said .ensures)) (asked .1 .line) (loop-test-said .taken) (drawable-said .ensures .lower (omega (arith, if2 .left))) (omega (arith, asked .1 .reached)) (drawable-said .ensures .can) (omega (arith, draw-said .kept .1 .1 .0, turn .inv .1, asked .1 .roomy .below .cells .cells)) (omega (arith, c .if3 .left, draw-said .ensures .most, drawable-said .ensures .most, turn .inv .4 .short))))
+    (omega (arith, loop-test-said .taken), pass-said .kept .1 .0 ∙ draw-said .kept .1 .1 .0 ∙ turn .inv .1, draw-said .kept .1 .1 .1 .0 ∙ turn .inv .2, draw-said .kept .1 .1 .1 .1 .0 ∙ turn .inv .3, rw (pass-said .ensures) (drawing-step (turn .inv .4) (rw (crossing-said .ensures) at (draw-said .ensures)) (asked .1 .line) (loop-test-said .taken) (drawable-said .ensures .lower (omega (arith, if2 .left))) (omega (arith, asked .1 .reached)) (drawable-said .ensures .can) (omega (arith, draw-said .kept .1 .1 .0, turn .inv .1, asked .1 .roomy .below .cells .cells)) (omega (arith, c .if3 .left, draw-said .ensures .most, drawable-said .ensures .most, turn .inv .4 .short))))
 
 draw-slice-write-marks : (t : ℕ) → draw-lts.Need-slice-write-marks (
   draw-own-reads.Asked,
   draw-own-reads.Learnt,
   drawable-reads.Asked,
   drawable-reads.Learnt,
-  cross-reads.Asked,
-  cross-reads.Learnt,
+  crossing-reads.Asked,
+  crossing-reads.Learnt,
   draw-below t,
   draw.Post,
   pass-reads.Asked,
@@ -415,8 +415,8 @@ draw-same-length-5 : (t : ℕ) → draw-lts.Need-same-length-5 (
   draw-own-reads.Learnt,
   drawable-reads.Asked,
   drawable-reads.Learnt,
-  cross-reads.Asked,
-  cross-reads.Learnt,
+  crossing-reads.Asked,
+  crossing-reads.Learnt,
   draw-below t,
   draw.Post,
   pass-reads.Asked,
@@ -429,8 +429,8 @@ draw-same-length-6 : (t : ℕ) → draw-lts.Need-same-length-6 (
   draw-own-reads.Learnt,
   drawable-reads.Asked,
   drawable-reads.Learnt,
-  cross-reads.Asked,
-  cross-reads.Learnt,
+  crossing-reads.Asked,
+  crossing-reads.Learnt,
   draw-below t,
   draw.Post,
   pass-reads.Asked,
@@ -443,8 +443,8 @@ draw-same-length-7 : (t : ℕ) → draw-lts.Need-same-length-7 (
   draw-own-reads.Learnt,
   drawable-reads.Asked,
   drawable-reads.Learnt,
-  cross-reads.Asked,
-  cross-reads.Learnt,
+  crossing-reads.Asked,
+  crossing-reads.Learnt,
   draw-below t,
   draw.Post,
   pass-reads.Asked,
@@ -457,8 +457,8 @@ draw-returns-3 : (t : ℕ) → draw-lts.Need-returns-3 (
   draw-own-reads.Learnt,
   drawable-reads.Asked,
   drawable-reads.Learnt,
-  cross-reads.Asked,
-  cross-reads.Learnt,
+  crossing-reads.Asked,
+  crossing-reads.Learnt,
   draw-below t,
   draw.Post,
   pass-reads.Asked,
@@ -476,8 +476,8 @@ pub +draw-spec : {M : Type 1} → statement M
   draw-own-reads.Learnt,
   drawable-reads.Asked,
   drawable-reads.Learnt,
-  cross-reads.Asked,
-  cross-reads.Learnt,
+  crossing-reads.Asked,
+  crossing-reads.Learnt,
   draw-below t,
   draw.Post,
   pass-reads.Asked,
@@ -496,7 +496,7 @@ pub +draw-spec : {M : Type 1} → statement M
     (draw-add-t t)
     (draw-loop-less t)
     (draw-loop-again t)
-    (draw-cross-requires t)
+    (draw-crossing-requires t)
     (draw-sub-draw t)
     (draw-draw-requires t)
     (draw-pass-requires t)

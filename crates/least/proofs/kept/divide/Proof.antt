@@ -11,10 +11,10 @@ use Rattle.sums.proofs.Tables.{tab-more}
 use Rattle.sums.specs.Sums.{sumTo}
 use Rattle.sums.specs.Tables.{tab}
 use Rattle.star.specs.Lines.{lineSum}
+use Rattle.sums.proofs.Fills.{begun-at}
 use Rattle.least.specs.Least.{share, remainder}
 use Rattle.least.specs.Promises.{claim}
 use Rattle.least.proofs.Shares.{share-is, remainder-is, part-most, share-most, shares-most, shares-and-missing, remainder-fits}
-use Rattle.least.proofs.Sums.{begun-at}
 use Rattle.least.proofs.kept.divide.Statement.{statement}
 use Rattle.least.proofs.kept.divide.Tie as tie
 

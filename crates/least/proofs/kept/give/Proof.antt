@@ -8,7 +8,7 @@ use lib.ListN.{length, getD}
 use borrow.Author.Needs.{needs}
 use Rattle.sums.specs.Sums.{bit}
 use Rattle.least.specs.Promises.{larger}
-use Rattle.least.proofs.Stores.{Rewriting, rewriting-none, rewriting-more, rewriting-all}
+use Rattle.least.proofs.Rewritings.{Rewriting, rewriting-none, rewriting-more, rewriting-all}
 use Rattle.least.proofs.kept.give.Statement.{statement}
 use Rattle.least.proofs.kept.give.Tie as tie
 

@@ -4,7 +4,7 @@ use mathlib.Core.Path.{refl}
 use borrow.Author.Needs.{needs}
 use Rattle.least.proofs.Remains.{longer-is, shorter-is}
 use Rattle.least.proofs.Shares.{share-most, divided-shares}
-use Rattle.least.proofs.Stores.{rewritten-same}
+use Rattle.least.proofs.Rewritings.{rewritten-same}
 use Rattle.least.proofs.kept.share_line.Statement.{statement}
 use Rattle.least.proofs.kept.share_line.Tie as tie
 

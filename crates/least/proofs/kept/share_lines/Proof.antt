@@ -4,7 +4,8 @@ use native.Mathlib.Omega.{arith}
 use mathlib.Core.Path.{_≡_, refl, _∙_}
 use lib.ListN.{length}
 use borrow.Author.Needs.{needs}
-use Rattle.least.proofs.Cutting.{Cutting, cutting-none, cutting-more, cutting-below, cutting-all, demands-below}
+use Rattle.star.proofs.LineLaws.{demands-below}
+use Rattle.least.proofs.Cutting.{Cutting, cutting-none, cutting-more, cutting-below, cutting-all}
 use Rattle.least.proofs.kept.share_lines.Statement.{statement}
 use Rattle.least.proofs.kept.share_lines.Tie as tie
 

@@ -3,7 +3,7 @@ use Prim.Native.Nat.{_-_}
 use native.Mathlib.Omega.{arith}
 use mathlib.Core.Path.{sym, _∙_, ap₂}
 use borrow.Author.Needs.{needs}
-use Rattle.levels.proofs.Crossings.{movable-row, movable-column}
+use Rattle.levels.proofs.Seats.{movable-row, movable-column}
 use Rattle.levels.proofs.pairs.can_move.Statement.{statement}
 use Rattle.levels.proofs.pairs.can_move.Tie as tie
 

@@ -1,6 +1,6 @@
 -- `levels::pairs::seat_of` gives the place on crossing lines: the two cases of the definition. Assumes nothing.
 use mathlib.Core.Path.{sym}
-use Rattle.levels.proofs.Crossings.{seat-row, seat-column}
+use Rattle.levels.proofs.Seats.{seat-row, seat-column}
 use Rattle.levels.proofs.pairs.seat_of.Statement.{statement}
 use Rattle.levels.proofs.pairs.seat_of.Tie as tie
 

@@ -6,7 +6,8 @@ use mathlib.Core.Path.{_≡_, refl, sym, _∙_, ap}
 use lib.ListN.{length, getD, length-set}
 use borrow.Author.Needs.{needs}
 use Rattle.levels.specs.Searches.{Spread}
-use Rattle.levels.proofs.Crossings.{cross-lt, seat-lt}
+use Rattle.star.proofs.CrossingLaws.{crossing-lt}
+use Rattle.levels.proofs.Seats.{seat-lt}
 use Rattle.levels.proofs.Growing.{spread-none, spread-skip, spread-mark, unmarked-most}
 use Rattle.levels.proofs.search.spread.Statement.{statement}
 use Rattle.levels.proofs.search.spread.Tie as tie
@@ -20,13 +21,13 @@ abbrev μ-loop : tie.MeasureT-loop
 loop-holds : tie.Need-loop-holds Inv-loop μ-loop
 loop-holds c = (omega arith, refl, spread-none _ _ _ _ _ _)
 
-cross-requires : tie.Need-cross-requires Inv-loop μ-loop
-cross-requires c κs = (omega (arith, c .before .before .before .before .before .pre .0 .cells), omega arith)
+crossing-requires : tie.Need-crossing-requires Inv-loop μ-loop
+crossing-requires c κs = (omega (arith, c .before .before .before .before .before .pre .0 .cells), omega arith)
 
 slice-read-if1 : tie.Need-slice-read-if1 Inv-loop μ-loop
 slice-read-if1 c =
     let asked = c .before .before .before .before .before .before .before .pre in
-    omega (arith, c .before .cross .ensures, cross-lt _ _ (asked .1 .1) _ (c .before .before .loop-test .taken))
+    omega (arith, c .before .crossing .ensures, crossing-lt _ _ _ (asked .1 .1) (c .before .before .loop-test .taken))
 
 add-t : tie.Need-add-t Inv-loop μ-loop
 add-t c = omega arith
@@ -37,7 +38,7 @@ loop-less c = omega arith
 loop-again : tie.Need-loop-again Inv-loop μ-loop
 loop-again c =
     let turn = c .before .before .before .before .loop in
-    (omega arith, turn .inv .1, spread-skip (turn .inv .2) (λ z. absurd (omega (arith, z, ap (λ x. getD (turn .marks) x 0) (c .before .before .cross .ensures), c .if1 .taken))))
+    (omega arith, turn .inv .1, spread-skip (turn .inv .2) (λ z. absurd (omega (arith, z, ap (λ x. getD (turn .marks) x 0) (c .before .before .crossing .ensures), c .if1 .taken))))
 
 seat-of-requires : tie.Need-seat-of-requires Inv-loop μ-loop
 seat-of-requires c κs = search needs
@@ -45,7 +46,7 @@ seat-of-requires c κs = search needs
 can-move-requires : tie.Need-can-move-requires Inv-loop μ-loop
 can-move-requires c κs =
     let asked = c .before .before .before .before .before .before .before .before .before .pre in
-    (asked .0, (omega (arith, c .before .before .before .cross .ensures, cross-lt _ _ (asked .1 .1) _ (c .before .before .before .before .loop-test .taken)), omega (arith, c .seat-of .ensures, seat-lt _ _ (asked .1 .1))))
+    (asked .0, (omega (arith, c .before .before .before .crossing .ensures, crossing-lt _ _ _ (asked .1 .1) (c .before .before .before .before .loop-test .taken)), omega (arith, c .seat-of .ensures, seat-lt _ _ (asked .1 .1))))
 
 add-t-2 : tie.Need-add-t-2 Inv-loop μ-loop
 add-t-2 c = omega arith
@@ -56,7 +57,7 @@ loop-less-2 c = omega arith
 loop-again-2 : tie.Need-loop-again-2 Inv-loop μ-loop
 loop-again-2 c =
     let turn = c .before .before .before .before .before .before .before .loop in
-    (omega arith, turn .inv .1, spread-skip (turn .inv .2) (λ z. rw (← (c .before .before .before .before .before .cross .ensures), ← (c .before .before .seat-of .ensures)) (sym (c .before .can-move .ensures) ∙ c .if2 .taken)))
+    (omega arith, turn .inv .1, spread-skip (turn .inv .2) (λ z. rw (← (c .before .before .before .before .before .crossing .ensures), ← (c .before .before .seat-of .ensures)) (sym (c .before .can-move .ensures) ∙ c .if2 .taken)))
 
 add-marks : tie.Need-add-marks Inv-loop μ-loop
 add-marks c = omega arith
@@ -65,7 +66,7 @@ slice-write-marks : tie.Need-slice-write-marks Inv-loop μ-loop
 slice-write-marks c =
     let asked = c .before .before .before .before .before .before .before .before .before .before .before .pre in
     let loop-test-said = c .before .before .before .before .before .before .loop-test in
-    omega (arith, c .before .before .before .before .before .cross .ensures, cross-lt _ _ (asked .1 .1) _ (loop-test-said .taken))
+    omega (arith, c .before .before .before .before .before .crossing .ensures, crossing-lt _ _ _ (asked .1 .1) (loop-test-said .taken))
 
 add-more : tie.Need-add-more Inv-loop μ-loop
 add-more c =
@@ -83,10 +84,10 @@ loop-less-3 c = omega arith
 loop-again-3 : tie.Need-loop-again-3 Inv-loop μ-loop
 loop-again-3 c =
     let turn = c .before .before .before .before .before .before .before .loop in
-    let cross-said = c .before .before .before .before .before .cross in
+    let crossing-said = c .before .before .before .before .before .crossing in
     let asked = c .before .before .before .before .before .before .before .before .before .before .before .pre in
     let loop-test-said = c .before .before .before .before .before .before .loop-test in
-    (omega arith, simp length-set (turn .inv .1), rw (cross-said .ensures) (spread-mark (turn .inv .2) (asked .1 .1) (loop-test-said .taken) (omega arith) (asked .1 .3) (asked .1 .2) (omega (arith, ap (λ x. getD (turn .marks) x 0) (cross-said .ensures), c .before .before .before .if1 .left)) (rw (← (cross-said .ensures), ← (c .before .before .seat-of .ensures)) (omega (arith, c .before .can-move .ensures)))))
+    (omega arith, simp length-set (turn .inv .1), rw (crossing-said .ensures) (spread-mark (turn .inv .2) (asked .1 .1) (loop-test-said .taken) (omega arith) (asked .1 .3) (asked .1 .2) (omega (arith, ap (λ x. getD (turn .marks) x 0) (crossing-said .ensures), c .before .before .before .if1 .left)) (rw (← (crossing-said .ensures), ← (c .before .before .seat-of .ensures)) (omega (arith, c .before .can-move .ensures)))))
 
 same-length : tie.Need-same-length Inv-loop μ-loop
 same-length c = c .before .loop .inv .1
@@ -101,7 +102,7 @@ spread-spec =
     Inv-loop
     μ-loop
     loop-holds
-    cross-requires
+    crossing-requires
     slice-read-if1
     add-t
     loop-less

@@ -1,0 +1,67 @@
+-- What a plan's tables say of its demand, pair by pair: no pair keeps more than it asks, and under the least rule no conflict-free schedule meets
+-- more. A demand that is met and what is refused of it make up the demand; the rest is the laws of the two rules. Assumes nothing.
+use Prim.Native.Nat.{ℕ, _+_, _-_, _*_, _/_, _%_, _≤_, _<_, min}
+use native.Mathlib.Omega.{arith}
+use mathlib.Core.Path.{_≡_, refl, sym, _∙_, ap}
+use mathlib.Core.List.{List}
+use lib.ListN.{getD}
+use Rattle.sums.specs.Sums.{sumTo}
+use Rattle.sums.specs.Tables.{cell}
+use Rattle.sums.proofs.Sums.{sum-ext, sum-add}
+use Rattle.sums.proofs.Cases.{by-eq}
+use Rattle.sums.proofs.Tables.{take-cell, place-split}
+use Rattle.star.specs.Lines.{total, wholeFrame}
+use Rattle.star.specs.Schedules.{ConflictFree, count, refusedBy}
+use Rattle.star.proofs.LineLaws.{total-ext}
+use Rattle.fair.specs.Fair.{fairKept}
+use Rattle.fair.proofs.Steps.{fair-below}
+use Rattle.least.specs.Least.{keptFrom}
+use Rattle.least.proofs.Keeping.{kept-below}
+use Rattle.least.proofs.LeastIsLeast.{least-is-least-whole}
+use Rattle.planner.specs.Plans.{Plan}
+use Rattle.run.specs.Histories.{met, given}
+
+-- the cell at a place is that of its pair
+pub at-place : (n : ℕ) (t : List ℕ) (p : ℕ) → p < n * n → getD t p 0 ≡ cell n t (p / n) (p % n)
+unfolding cell
+at-place n t p lt = ap (λ x. getD t x 0) (sym (place-split n p lt .1 .1))
+
+module _ {n l rule : ℕ} {cap d kept withdrawn schedule : List ℕ} (p : Plan n l rule cap d kept withdrawn schedule) where
+  pub plan-below : rule ≤ 1 → (i j : ℕ) → i < n → j < n → cell n kept i j ≤ cell n d i j
+  plan-below known i j hi hj =
+      by-eq rule 0
+      (λ e. omega (arith, take-cell n kept (fairKept n cap d) (p .fair e .0) i j hi hj, fair-below n cap d i j hi hj))
+      (λ ne. let e : rule ≡ 1 = omega arith in
+      omega (arith, take-cell n kept (keptFrom n cap d withdrawn) (p .least e .1) i j hi hj, kept-below n cap d withdrawn i j hi hj))
+
+  pub plan-below-at : rule ≤ 1 → (q : ℕ) → q < n * n → getD kept q 0 ≤ getD d q 0
+  plan-below-at known q lt = let s = place-split n q lt in
+      omega (arith, at-place n kept q lt, at-place n d q lt, plan-below known (q / n) (q % n) (s .0) (s .1 .0))
+
+  -- the schedule gives what is kept
+  pub given-kept : given n l schedule ≡ total n kept
+  unfolding given total
+  given-kept = sum-ext n _ _ (λ i hi. sum-ext n _ _ (λ j hj. p .carried .exact i j hi hj))
+
+-- what of a demand a schedule meets, and what it refuses
+pub met-and-refused : (n l : ℕ) (d s : List ℕ) → met n l (cell n d) s + refusedBy n l d s ≡ total n d
+unfolding met refusedBy total
+met-and-refused n l d s =
+    sym (sum-add n (λ i. sumTo n (λ j. min (cell n d i j) (count n l s i j))) (λ i. sumTo n (λ j. cell n d i j - count n l s i j)))
+    ∙ sum-ext n _ _ (λ i hi. sym (sum-add n (λ j. min (cell n d i j) (count n l s i j)) (λ j. cell n d i j - count n l s i j)) ∙ sum-ext n _ _ (λ j hj. omega arith))
+
+pub met-ext : (n l : ℕ) (f g : ℕ → ℕ → ℕ) (s : List ℕ) → ((i j : ℕ) → i < n → j < n → f i j ≡ g i j) → met n l f s ≡ met n l g s
+unfolding met
+met-ext n l f g s same = sum-ext n _ _ (λ i hi. sum-ext n _ _ (λ j hj. ap (λ x. min x (count n l s i j)) (same i j hi hj)))
+
+-- under the least rule no conflict-free schedule of L slots meets more of the demand than the plan's gives
+pub plan-most : {n l : ℕ} {d kept withdrawn schedule : List ℕ} → Plan n l 1 (wholeFrame n l) d kept withdrawn schedule →
+    (other : List ℕ) → ConflictFree n l other → met n l (cell n d) other ≤ given n l schedule
+plan-most {n} {l} {d} {kept} {withdrawn} {schedule} p other free = let g = p .least refl in
+    omega (
+      arith,
+      least-is-least-whole (g .0) other free,
+      met-and-refused n l d other,
+      given-kept p,
+      total-ext n kept (keptFrom n (wholeFrame n l) d withdrawn) (take-cell n kept _ (g .1)),
+    )

@@ -1,0 +1,186 @@
+-- Chains of checks read backwards: what an accepted call has passed, and what a chain gives once its first checks are known. A check that
+-- gives Accepted did not fire, and left it to the later ones. Assumes nothing.
+use Prim.Native.Nat.{ℕ, _*_, _≤_, _<_}
+use native.Mathlib.Omega.{arith}
+use mathlib.Core.Path.{_≡_, refl, sym, _∙_}
+use mathlib.Core.Bool.{Bool, true, false, _||_}
+use mathlib.Core.List.{List}
+use lib.ListN.{length, getD}
+use borrow.Author.Tests.{ltb-false, leb-false}
+use Rattle.star.specs.declared.refusals.Refusal.{Refusal}
+use Rattle.star.specs.declared.refusals.Refusal.the-variants.{Nodes, Slots, Rule, QueueLimit, BooksDisagree, CallsSpent}
+use Rattle.star.specs.declared.refusals.Verdict.{Verdict}
+use Rattle.star.specs.declared.refusals.Verdict.the-variants.{Accepted, Refused}
+use Rattle.star.specs.Refusals.{refuse, outside, nodesOut, slotsOut, ruleOut, limitOut, short, spent, someCell}
+use Rattle.star.specs.Tables.{Square, Demands}
+use Rattle.star.proofs.RefusalLaws.{within-range}
+use Rattle.books.specs.Books.{firstDisagreeing}
+use Rattle.books.specs.Rooms.{Tables}
+use Rattle.books.proofs.Agreements.{Agree, agreeing}
+use Rattle.run.specs.declared.record.Run.{Run}
+use Rattle.run.specs.Runs.{runShort, freshVerdict, postVerdict, frameVerdict}
+use Rattle.run.specs.Checks.{rangesVerdict, booksVerdict, Ranges}
+
+-- ---- one check
+pub never : {r : Refusal} → Refused r ≡ Accepted → ⊥
+never e = let z : _≡_ {A = ℕ} 0 1 = cc in omega arith
+
+-- an accepted call has passed the check, and the later ones
+pub passed : (b : Bool) (r : Refusal) (later : Verdict) → refuse b r later ≡ Accepted → (b ≡ false) × (later ≡ Accepted)
+unfolding refuse
+passed true r later e = absurd (never e)
+passed false r later e = (refl, e)
+
+-- a check that gives its refusal gives it whatever comes later
+pub still-fires : (b : Bool) (r : Refusal) {s : Refusal} {x y : Verdict} → (x ≡ Refused s → y ≡ Refused s) → refuse b r x ≡ Refused s → refuse b r y ≡ Refused s
+unfolding refuse
+still-fires true r f e = e
+still-fires false r f e = f e
+
+-- a check that is passed is passed whatever comes later
+pub still-passes : (b : Bool) (r : Refusal) {v x y : Verdict} → (x ≡ Accepted → v ≡ y) → refuse b r x ≡ Accepted → v ≡ refuse b r y
+unfolding refuse
+still-passes true r f e = absurd (never e)
+still-passes false r f e = f e
+
+pub neither-of : (a b : Bool) → (a || b) ≡ false → (a ≡ false) × (b ≡ false)
+neither-of true b e = let z : _≡_ {A = ℕ} 0 1 = cc in absurd (omega arith)
+neither-of false b e = (refl, e)
+
+pub in-its-range : (low high x : ℕ) → outside low high x ≡ false → (low ≤ x) × (x ≤ high)
+in-its-range low high x e = let h = neither-of _ _ e in
+    (ltb-false x low (h .0), ltb-false high x (h .1))
+
+-- ---- 1, 2, 3, 7
+module _ (n l rule limit : ℕ) where
+  pub ranges-fire : {s : Refusal} {v : Verdict} (later : Verdict) → v ≡ rangesVerdict n l rule limit → v ≡ Refused s →
+      v ≡ refuse (nodesOut n) Nodes (refuse (slotsOut l) Slots (refuse (ruleOut rule) Rule (refuse (limitOut limit) QueueLimit later)))
+  unfolding rangesVerdict
+  ranges-fire later is fired =
+      fired ∙ sym (still-fires _ _ (still-fires _ _ (still-fires _ _ (still-fires _ _ (λ e. absurd (never (sym e)))))) (sym is ∙ fired))
+
+  pub ranges-pass : {v w later : Verdict} → v ≡ rangesVerdict n l rule limit → v ≡ Accepted → w ≡ later →
+      w ≡ refuse (nodesOut n) Nodes (refuse (slotsOut l) Slots (refuse (ruleOut rule) Rule (refuse (limitOut limit) QueueLimit later)))
+  unfolding rangesVerdict
+  ranges-pass is accepted e = still-passes _ _ (still-passes _ _ (still-passes _ _ (still-passes _ _ (λ _. e)))) (sym is ∙ accepted)
+
+  pub in-ranges : {later : Verdict} → refuse (nodesOut n) Nodes (refuse (slotsOut l) Slots (refuse (ruleOut rule) Rule (refuse (limitOut limit) QueueLimit later))) ≡ Accepted →
+      (Ranges n l rule limit) × (later ≡ Accepted)
+  in-ranges e =
+      let a = passed _ _ _ e in
+      let b = passed _ _ _ (a .1) in
+      let c = passed _ _ _ (b .1) in
+      let d = passed _ _ _ (c .1) in
+      let nodes = in-its-range 1 64 n (a .0) in
+      let slots = in-its-range 1 1024 l (b .0) in
+      let room = in-its-range 1 65535 limit (d .0) in
+      (record { some-nodes = nodes .0; nodes = nodes .1; some-slots = slots .0; slots = slots .1; known-rule = ltb-false 1 rule (c .0); some-room = room .0; room = room .1 }, d .1)
+
+  pub ranged : {v : Verdict} → v ≡ rangesVerdict n l rule limit → v ≡ Accepted → Ranges n l rule limit
+  unfolding rangesVerdict
+  ranged is accepted = in-ranges (sym is ∙ accepted) .0
+
+-- ---- 5
+long-enough : (room needed : ℕ) → short room needed ≡ false → needed ≤ room
+long-enough room needed e = ltb-false room needed e
+
+module _ (n : ℕ) (waiting posted sent dropped : List ℕ) where
+  pub long-tables : n ≤ 64 → runShort n (length waiting) (length posted) (length sent) (length dropped) ≡ false → Tables n waiting posted sent dropped
+  long-tables few e =
+      let a = neither-of _ _ e in
+      let b = neither-of _ _ (a .0) in
+      let c = neither-of _ _ (b .0) in
+      record {
+        queues = record { nodes = few; cells = long-enough _ _ (c .0) };
+        postings = record { nodes = few; cells = long-enough _ _ (c .1) };
+        sendings = record { nodes = few; cells = long-enough _ _ (b .1) };
+        drops = record { nodes = few; cells = long-enough _ _ (a .1) };
+      }
+
+-- ---- 8, 9
+module _ (n limit posts calls : ℕ) (waiting posted sent dropped : List ℕ) where
+  -- books that agree, and a call of which there were few
+  pub record InOrder : Type 0 where
+    pub books : (p : ℕ) → p < n * n → Agree limit posts (getD waiting p 0) (getD posted p 0) (getD sent p 0) (getD dropped p 0)
+    pub few : calls < 1000000
+
+  abbrev first : ℕ
+  first = firstDisagreeing n limit posts waiting posted sent dropped
+
+  pub books-fire : {s : Refusal} {v : Verdict} (later : Verdict) → v ≡ booksVerdict n limit posts calls waiting posted sent dropped → v ≡ Refused s →
+      v ≡ refuse (someCell (n * n) first) (BooksDisagree first) (refuse (spent calls) CallsSpent later)
+  unfolding booksVerdict
+  books-fire later is fired = fired ∙ sym (still-fires _ _ (still-fires _ _ (λ e. absurd (never (sym e)))) (sym is ∙ fired))
+
+  pub books-pass : {v w later : Verdict} → v ≡ booksVerdict n limit posts calls waiting posted sent dropped → v ≡ Accepted → w ≡ later →
+      w ≡ refuse (someCell (n * n) first) (BooksDisagree first) (refuse (spent calls) CallsSpent later)
+  unfolding booksVerdict
+  books-pass is accepted e = still-passes _ _ (still-passes _ _ (λ _. e)) (sym is ∙ accepted)
+
+  pub in-order : {later : Verdict} → refuse (someCell (n * n) first) (BooksDisagree first) (refuse (spent calls) CallsSpent later) ≡ Accepted → InOrder × (later ≡ Accepted)
+  in-order e =
+      let a = passed _ _ _ e in
+      let b = passed _ _ _ (a .1) in
+      (record { books = agreeing n limit posts waiting posted sent dropped (ltb-false _ _ (a .0)); few = leb-false 1000000 calls (b .0) }, b .1)
+
+-- ---- fresh
+pub fresh-accepted : (n l limit rule : ℕ) (waiting posted sent dropped : List ℕ) →
+    freshVerdict n l limit rule (length waiting) (length posted) (length sent) (length dropped) ≡ Accepted →
+    (Ranges n l rule limit) × (Tables n waiting posted sent dropped)
+unfolding freshVerdict
+fresh-accepted n l limit rule waiting posted sent dropped e =
+    let a = in-ranges n l rule limit e in
+    (a .0, long-tables n waiting posted sent dropped (a .0 .nodes) (passed _ _ _ (a .1) .0))
+
+-- ---- post
+module _ (old : Run) (arrivals waiting posted sent dropped : List ℕ) where
+  -- what an accepted post has passed
+  pub record PostFits : Type 0 where
+    pub ranges : Ranges (old .nodes) (old .slots) (old .rule) (old .limit)
+    pub given : Square (old .nodes) arrivals
+    pub tables : Tables (old .nodes) waiting posted sent dropped
+    pub order : InOrder (old .nodes) (old .limit) (old .posts) (old .posts) waiting posted sent dropped
+    pub within : Demands (old .nodes) arrivals
+
+  pub post-accepted : postVerdict old arrivals waiting posted sent dropped ≡ Accepted → PostFits
+  unfolding postVerdict
+  post-accepted e =
+      let a = in-ranges (old .nodes) (old .slots) (old .rule) (old .limit) e in
+      let b = passed _ _ _ (a .1) in
+      let c = passed _ _ _ (b .1) in
+      let d = in-order (old .nodes) (old .limit) (old .posts) (old .posts) waiting posted sent dropped (c .1) in
+      record {
+        ranges = a .0;
+        given = record { nodes = a .0 .nodes; cells = long-enough _ _ (b .0) };
+        tables = long-tables (old .nodes) waiting posted sent dropped (a .0 .nodes) (c .0);
+        order = d .0;
+        within = within-range (old .nodes) arrivals (ltb-false _ _ (passed _ _ _ (d .1) .0));
+      }
+
+-- ---- frame
+module _ (old : Run) (waiting posted sent dropped : List ℕ) (kept withdrawn schedule : ℕ) where
+  -- what an accepted frame has passed
+  pub record FrameFits : Type 0 where
+    pub ranges : Ranges (old .nodes) (old .slots) (old .rule) (old .limit)
+    pub tables : Tables (old .nodes) waiting posted sent dropped
+    pub kept-room : old .nodes * old .nodes ≤ kept
+    pub withdrawn-room : old .nodes * old .nodes ≤ withdrawn
+    pub schedule-room : old .slots * old .nodes ≤ schedule
+    pub order : InOrder (old .nodes) (old .limit) (old .posts) (old .frames) waiting posted sent dropped
+
+  pub frame-accepted : frameVerdict old waiting posted sent dropped kept withdrawn schedule ≡ Accepted → FrameFits
+  unfolding frameVerdict
+  frame-accepted e =
+      let a = in-ranges (old .nodes) (old .slots) (old .rule) (old .limit) e in
+      let b = passed _ _ _ (a .1) in
+      let t = neither-of _ _ (b .0) in
+      let s = neither-of _ _ (t .1) in
+      let k = neither-of _ _ (s .0) in
+      record {
+        ranges = a .0;
+        tables = long-tables (old .nodes) waiting posted sent dropped (a .0 .nodes) (t .0);
+        kept-room = long-enough _ _ (k .0);
+        withdrawn-room = long-enough _ _ (k .1);
+        schedule-room = long-enough _ _ (s .1);
+        order = in-order (old .nodes) (old .limit) (old .posts) (old .frames) waiting posted sent dropped (b .1) .0;
+      }
