@@ -6,7 +6,7 @@ use native.Mathlib.Omega.{arith}
 use native.Mathlib.Nat.{mul-le-mul-right}
 use borrow.Author.Count.{below-more}
 use lib.Arith.{digits-lt}
-use lib.ListN.{length, getD, set, drop, length-set}
+use lib.ListN.{length, getD, set, drop}
 use lib.Seq.{getD-set-same, getD-set-other, drop-set-lt, drop-drop}
 use Rattle.star.specs.Tables.{Square}
 use Rattle.arrays.specs.Arrays.{Frame, Slot}

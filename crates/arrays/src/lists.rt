@@ -1,6 +1,6 @@
 // Lists: of bytes, which stand for nodes, of 16-bit numbers, and of sets of nodes.
 ghost use mathlib.Core.Path.{_≡_};
-ghost use Prim.Native.Nat.{ℕ, _<_, _≤_};
+ghost use Prim.Native.Nat.{_<_, _≤_};
 ghost use lib.ListN.{length, getD, set};
 ghost use Rattle.arrays.specs.Arrays.{Filled};
 

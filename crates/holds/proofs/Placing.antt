@@ -10,12 +10,11 @@ use Rattle.sums.specs.Sums.{sumTo, hit}
 use Rattle.sums.specs.Tables.{cell}
 use Rattle.sums.proofs.Sums.{sum-ext, sum-add, sum-scale, sum-hit, sum-two, sum-run, hit-same, hit-other}
 use Rattle.sums.proofs.Cases.{by-eq, by-lt}
-use Rattle.star.specs.Tables.{Square}
 use Rattle.star.specs.Lines.{lineSum}
 use Rattle.star.specs.Schedules.{ConflictFree, count}
 use Rattle.star.proofs.LineLaws.{row-sum, column-sum}
 use Rattle.pairs.specs.Pairs.{taken}
-use Rattle.holds.specs.Holds.{lasting, heardFrom, CanLast, Lasts, CanHear, Hears, CanTake, Taken, Wrote, Placed, CanHold, Holds}
+use Rattle.holds.specs.Holds.{CanLast, Lasts, CanHear, Hears, CanTake, Taken, Wrote, CanHold, Holds}
 use Rattle.holds.proofs.Turns.{lasting-idle, lasting-due, heard-idle, heard-due}
 
 -- ---- lines

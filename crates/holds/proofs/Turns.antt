@@ -12,7 +12,7 @@ use Rattle.sums.proofs.Cases.{by-eq, by-lt}
 use Rattle.sums.proofs.Tables.{cell-lt, set-here, set-row, set-col}
 use Rattle.arrays.specs.Arrays.{Slot}
 use Rattle.arrays.proofs.Stores.{stored-more, beyond-kept, beyond-more}
-use Rattle.holds.specs.Holds.{lasting, heardFrom, CanLast, Lasts, CanHear, Hears, CanTake, Taken, Wrote}
+use Rattle.holds.specs.Holds.{lasting, heardFrom, CanLast, CanHear, CanTake, Taken, Wrote}
 
 -- ---- how long a pair lasts, and what is heard of it
 pub lasting-idle : (due padded : ℕ) → due ≡ 0 → lasting due padded ≡ padded

@@ -2,7 +2,7 @@
 use crate::least;
 use crate::taken;
 use crate::writing;
-ghost use Prim.Native.Nat.{ℕ, _<_, _≤_};
+ghost use Prim.Native.Nat.{_≤_};
 ghost use lib.ListN.{length};
 ghost use Rattle.holds.specs.Holds.{CanHold, Holds};
 

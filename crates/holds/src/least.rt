@@ -2,7 +2,6 @@
 use arrays::lists;
 use arrays::tables;
 ghost use mathlib.Core.Path.{_≡_};
-ghost use Prim.Native.Nat.{ℕ, _<_, _≤_};
 ghost use Rattle.holds.specs.Holds.{lasting, CanLast, Lasts};
 
 // For how many slots a pair's byte stays the same: as long as it is due, and then as long as it is idle.

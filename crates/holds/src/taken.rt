@@ -1,8 +1,6 @@
 // What the destinations hear, and what that takes from their pairs.
 use arrays::lists;
 use arrays::tables;
-ghost use mathlib.Core.Path.{_≡_};
-ghost use Prim.Native.Nat.{ℕ, _<_, _≤_};
 ghost use Rattle.holds.specs.Holds.{CanHear, Hears, CanTake, Taken};
 
 // What each destination hears: its source, while the pair has slots due, and else nobody.

@@ -1,7 +1,7 @@
 // Writing one setting into slots.
 use arrays::frames;
 use arrays::lists;
-ghost use Prim.Native.Nat.{ℕ, _+_, _<_, _≤_};
+ghost use Prim.Native.Nat.{_+_, _≤_};
 ghost use lib.ListN.{length};
 ghost use Rattle.arrays.specs.Arrays.{Frame, Slot};
 ghost use Rattle.holds.specs.Holds.{Wrote};

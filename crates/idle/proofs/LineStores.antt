@@ -1,14 +1,14 @@
 -- A cell and its two lines: a cell is at most the sum of each, and a change of one cell moves both sums alike. The laws assume nothing.
-use mathlib.Core.Path.{_≡_, refl, sym, ap, _∙_}
+use mathlib.Core.Path.{_≡_, sym, ap, _∙_}
 use mathlib.Core.List.{List}
 use Prim.Native.Nat.{ℕ, _+_, _-_, _*_, _/_, _%_, _≤_, _<_}
 use native.Mathlib.Omega.{arith}
-use lib.ListN.{length, getD, set}
-use Rattle.sums.specs.Sums.{sumTo, hit}
+use lib.ListN.{getD}
+use Rattle.sums.specs.Sums.{hit}
 use Rattle.sums.specs.Tables.{cell}
 use Rattle.sums.proofs.Sums.{sum-ext, sum-at, sum-bump, hit-same, hit-other}
 use Rattle.sums.proofs.Cases.{by-eq, by-lt}
-use Rattle.sums.proofs.Tables.{cell-lt, set-here, set-row, set-col, place-split}
+use Rattle.sums.proofs.Tables.{place-split}
 use Rattle.star.specs.Lines.{lineSum}
 use Rattle.star.proofs.LineLaws.{row-sum, column-sum}
 

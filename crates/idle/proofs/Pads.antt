@@ -1,12 +1,11 @@
 -- Padding: what each loop keeps. A pair that got the smaller of what its lines lack leaves one of them lacking nothing; rows and columns
 -- lack the same in all, so in the end nobody lacks anything. The laws assume nothing.
-use mathlib.Core.Path.{_≡_, refl, sym, ap, _∙_}
+use mathlib.Core.Path.{_≡_, refl, sym, _∙_}
 use mathlib.Core.Logic.{_⊎_, ⊎-elim, inl, inr}
 use mathlib.Core.List.{List}
 use Prim.Native.Nat.{ℕ, _+_, _-_, _*_, _≤_, _<_, min}
 use native.Mathlib.Omega.{arith}
 use borrow.Author.Count.{below-more}
-use lib.Arith.{digits-lt}
 use lib.ListN.{length, getD, set, length-set}
 use lib.Seq.{getD-set-same, getD-set-other}
 use Rattle.sums.specs.Sums.{sumTo, hit}
@@ -15,10 +14,10 @@ use Rattle.sums.proofs.Sums.{sum-ext, sum-add, sum-at, sum-all-zero, hit-same, 
 use Rattle.sums.proofs.Cases.{by-eq, by-lt}
 use Rattle.sums.proofs.Tables.{cell-lt, set-here, set-row, set-col}
 use Rattle.star.specs.Tables.{Square, Demands}
-use Rattle.star.specs.Lines.{lineSum, total}
+use Rattle.star.specs.Lines.{lineSum}
 use Rattle.star.proofs.LineLaws.{total-rows, total-columns, line-ext}
 use Rattle.arrays.proofs.Stores.{stored-more, square-kept}
-use Rattle.idle.specs.Idle.{Small, Copied, LineSums, Largest, Lacking, Lacks, CanPad, Fuller, PaddedAt, PaddedRow, PaddedAll, CanFill, Padded}
+use Rattle.idle.specs.Idle.{Small, Copied, LineSums, Largest, Lacking, Lacks, CanPad, Fuller, PaddedAt, PaddedRow, PaddedAll, Padded}
 use Rattle.idle.proofs.LineStores.{cell-row, place-row-sum, line-more}
 
 -- ---- the matrix, copied up to p

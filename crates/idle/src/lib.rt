@@ -2,7 +2,7 @@
 use arrays::lists;
 use arrays::tables;
 ghost use mathlib.Core.Path.{_≡_};
-ghost use Prim.Native.Nat.{ℕ, _*_, _<_, _≤_, min};
+ghost use Prim.Native.Nat.{_*_, _<_, _≤_, min};
 ghost use lib.ListN.{length};
 ghost use Rattle.star.specs.Tables.{Square};
 ghost use Rattle.idle.specs.Idle.{Small, Copied, LineSums, Largest, Lacking, CanPad, PaddedAt, PaddedRow, PaddedAll, CanFill, Padded};

@@ -4,6 +4,8 @@ use mathlib.Core.Logic.{_⊎_, ⊎-elim, inl, inr}
 use Prim.Native.Nat.{ℕ, zero, suc, _+_, _-_, _*_, _/_, _%_, _^_, _<_, min, max}
 use native.Mathlib.Omega.{arith}
 use native.Mathlib.Nat.{mod-lt, zero-lt-suc, div-div-eq-div-mul, pow-succ'}
+use mathlib.Core.Bool.{Bool, true, false, false≢true}
+use mir.Val.{boolByte}
 use lib.Arith.{digits-div, digits-mod}
 use lib.Dec.{eqb}
 use borrow.Author.Tests.{eqb-true, eqb-false}
@@ -11,7 +13,7 @@ use lib.Bits.{bitAnd, bitOr, bitXor, differ, and-step, or-step, xor-step, and-ma
 use lib.Pow.{shl-exact, pow-pos}
 use lib.Count.{trailingZeros, under, trailing-le}
 use Rattle.sums.proofs.Cases.{by-eq}
-use Rattle.nodes.specs.Sets.{member, Has, With, Without, First}
+use Rattle.nodes.specs.Sets.{member, Has, With, WithWhere, Without, First}
 
 bit-case : (x : ℕ) → x < 2 → (x ≡ 0) ⊎ (x ≡ 1)
 bit-case x h = by-eq x 0 (λ e. inl e) (λ ne. inr (omega arith))
@@ -99,6 +101,17 @@ with-law s i h =
           let q : member j (bitOr s ((1 * 2 ^ i) % 2 ^ 64)) + member j s * 0 ≡ member j s + 0 = rw off at (or-member j s ((1 * 2 ^ i) % 2 ^ 64)) in
           omega arith;
     }
+
+pub with-where-law : (s i : ℕ) (test : Bool) → i < 64 → WithWhere s i test (bitOr s ((boolByte test * 2 ^ i) % 2 ^ 64))
+with-where-law s i true h = let w = with-law s i h in record { added = λ e. w .here; left = λ e. absurd (false≢true (sym e)); other = w .other }
+with-where-law s i false h =
+    let none : (0 * 2 ^ i) % 2 ^ 64 ≡ 0 = omega arith in
+    let same : (j : ℕ) → member j (bitOr s ((0 * 2 ^ i) % 2 ^ 64)) ≡ member j s =
+    λ j.
+    let off : member j ((0 * 2 ^ i) % 2 ^ 64) ≡ 0 = ap (member j) none ∙ member-none j in
+    let q : member j (bitOr s ((0 * 2 ^ i) % 2 ^ 64)) + member j s * 0 ≡ member j s + 0 = rw off at (or-member j s ((0 * 2 ^ i) % 2 ^ 64)) in
+    omega arith in
+    record { added = λ e. absurd (false≢true e); left = λ e. same i; other = λ j ne. same j }
 
 pub minus-law : (s t j : ℕ) → member j (bitXor s (bitAnd s t)) + member j s * member j t ≡ member j s
 minus-law s t j =

@@ -1,8 +1,7 @@
 -- How many of the nodes below n a set has: what the operations do to it, by sums of members. The laws assume nothing.
 use mathlib.Core.Path.{_≡_}
-use Prim.Native.Nat.{ℕ, _+_, _*_, _≤_, _<_}
+use Prim.Native.Nat.{ℕ, _+_, _≤_, _<_}
 use native.Mathlib.Omega.{arith}
-use Rattle.sums.specs.Sums.{sumTo}
 use Rattle.sums.proofs.Sums.{sum-ext, sum-add, sum-update}
 use Rattle.nodes.specs.Sets.{member, size, With, Without, Both, Minus}
 

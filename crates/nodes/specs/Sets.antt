@@ -27,6 +27,11 @@ pub record With (s i r : ℕ) : Type 0 where
   pub here : member i r ≡ 1
   pub other : (j : ℕ) → (j ≡ i → ⊥) → member j r ≡ member j s
 
+pub record WithWhere (s i : ℕ) (test : Bool) (r : ℕ) : Type 0 where
+  pub added : test ≡ true → member i r ≡ 1
+  pub left : test ≡ false → member i r ≡ member i s
+  pub other : (j : ℕ) → (j ≡ i → ⊥) → member j r ≡ member j s
+
 pub record Without (s i r : ℕ) : Type 0 where
   pub here : member i r ≡ 0
   pub other : (j : ℕ) → (j ≡ i → ⊥) → member j r ≡ member j s

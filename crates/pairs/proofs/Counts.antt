@@ -8,7 +8,7 @@ use native.Mathlib.Nat.{mul-le-mul-left}
 use lib.ListN.{getD}
 use Rattle.sums.specs.Sums.{sumTo, hit}
 use Rattle.sums.specs.Tables.{cell}
-use Rattle.sums.proofs.Sums.{sum-ext, sum-mono, sum-most, sum-swap, sum-scale, sum-pick, sum-hit, sum-tight, sum-update, sum-zero, sum-all-zero, sum-at, hit-same, hit-other}
+use Rattle.sums.proofs.Sums.{sum-ext, sum-mono, sum-swap, sum-scale, sum-pick, sum-hit, sum-tight, sum-all-zero, hit-same, hit-other}
 use Rattle.sums.proofs.Cases.{by-eq, by-lt}
 use Rattle.pairs.specs.Pairs.{allowed, taken, Paired, Full, Stuck}
 

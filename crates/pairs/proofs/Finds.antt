@@ -1,7 +1,7 @@
 -- The search: what it keeps, that it ends in a way where it meets a free source, and else in the sets that show why there is none.
 -- A destination's rank is the round in which it was reached, so it falls along the way; ranks exist in the proof alone. The laws assume nothing.
 use mathlib.Core.Path.{_≡_, refl, sym, ap, _∙_}
-use mathlib.Core.Bool.{true, false, cond}
+use mathlib.Core.Bool.{cond}
 use mathlib.Core.List.{List}
 use Prim.Native.Nat.{ℕ, _+_, _*_, _≤_, _<_}
 use native.Mathlib.Omega.{arith}
@@ -17,7 +17,7 @@ use Rattle.nodes.specs.Sets.{member, size, All, Without, Both, Minus, First}
 use Rattle.nodes.proofs.Members.{member-lt}
 use Rattle.nodes.proofs.Sizes.{size-without, size-parted}
 use Rattle.pairs.specs.Pairs.{allowed}
-use Rattle.pairs.specs.Ways.{Unpaired, Choice, Hears, Settled, Peeked, From, Spread, Hop, Leads, Way, Shut, CanSearch, Searched}
+use Rattle.pairs.specs.Ways.{Choice, Settled, Peeked, Spread, Leads, Shut, CanSearch, Searched}
 
 -- `left` has the sources that no reached destination may hear, `todo` the destinations that are reached and not done
 pub record Finding (n : ℕ) (may destination next0 next : List ℕ) (sources destinations todo left : ℕ) : Type 0 where

@@ -2,15 +2,15 @@
 -- are as they were at the start, so the way goes on; and each step leaves one destination fewer as it was. The laws assume nothing.
 use mathlib.Core.Path.{_≡_, refl, sym, ap, _∙_}
 use mathlib.Core.List.{List}
-use Prim.Native.Nat.{ℕ, _+_, _≤_, _<_}
+use Prim.Native.Nat.{ℕ, _≤_, _<_}
 use native.Mathlib.Omega.{arith}
 use lib.ListN.{length, getD, set, length-set}
 use lib.Seq.{getD-set-same, getD-set-other}
 use Rattle.sums.specs.Sums.{sumTo, hit}
 use Rattle.sums.proofs.Sums.{sum-update, hit-same, hit-other}
 use Rattle.sums.proofs.Cases.{by-eq}
-use Rattle.pairs.specs.Pairs.{allowed, Paired}
-use Rattle.pairs.specs.Ways.{Fewer, Hop, Leads, Way, CanFlip, Flipped}
+use Rattle.pairs.specs.Pairs.{allowed}
+use Rattle.pairs.specs.Ways.{Hop, CanFlip, Flipped}
 
 -- source i is in hand, and j is the destination last changed
 pub record Going (n : ℕ) (may source0 destination0 source destination next : List ℕ) (rank : ℕ → ℕ) (r i j : ℕ) : Type 0 where

@@ -1,22 +1,22 @@
 -- Pairing one after the other: what holds between two turns, what a pair more does to the free nodes, and that a failed search marks
 -- the sources. The laws assume nothing.
 use mathlib.Core.Path.{_≡_, refl, sym, ap, _∙_}
-use mathlib.Core.Bool.{Bool, true, false, cond, false≢true}
+use mathlib.Core.Bool.{true, false, cond, false≢true}
 use mathlib.Core.List.{List}
-use Prim.Native.Nat.{ℕ, _+_, _-_, _≤_, _<_}
+use Prim.Native.Nat.{ℕ, _-_, _≤_, _<_}
 use native.Mathlib.Omega.{arith}
 use borrow.Author.Tests.{lt-ltb, le-ltb}
 use lib.Dec.{ltb}
 use lib.ListN.{length, getD, set, length-set}
 use lib.Seq.{getD-set-same, getD-set-other}
-use Rattle.sums.specs.Sums.{sumTo, hit}
+use Rattle.sums.specs.Sums.{hit}
 use Rattle.sums.proofs.Sums.{sum-at, hit-same}
 use Rattle.sums.proofs.Cases.{by-eq, by-lt}
 use Rattle.nodes.specs.Sets.{member, size, Without, First}
 use Rattle.nodes.proofs.Members.{member-lt}
 use Rattle.nodes.proofs.Sizes.{size-without}
-use Rattle.pairs.specs.Pairs.{allowed, taken, Paired, Full, Stuck, Rooms, CanMatch, Matched}
-use Rattle.pairs.specs.Ways.{Unpaired, Fewer, Choice, Ready, Shut, CanSearch, Searched, CanFlip, Flipped}
+use Rattle.pairs.specs.Pairs.{allowed, taken, Paired, CanMatch, Matched}
+use Rattle.pairs.specs.Ways.{Unpaired, Fewer, Choice, Ready, CanSearch, Searched, CanFlip, Flipped}
 
 -- ---- free nodes
 pub fewer-free : {n : ℕ} {x y : List ℕ} {s s' e : ℕ} → Unpaired n x s → Fewer n x y e → Without s e s' → Unpaired n y s'

@@ -1,6 +1,6 @@
 -- Pairing sources with destinations. `may` has for each destination the set of the sources that it may hear, `source` for each
 -- destination the source it is paired with, `destination` for each source its destination; n stands for none.
-use Prim.Native.Nat.{ℕ, _+_, _<_, _≤_}
+use Prim.Native.Nat.{ℕ, _<_, _≤_}
 use mathlib.Core.Path.{_≡_}
 use mathlib.Core.List.{List}
 use mathlib.Core.Bool.{Bool, true, false}

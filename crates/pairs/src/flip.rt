@@ -1,6 +1,5 @@
 // Moving sources along a way.
 use arrays::lists;
-ghost use Prim.Native.Nat.{ℕ, _<_, _≤_};
 ghost use Rattle.pairs.specs.Ways.{MayFlip, Flips};
 
 // Gives source r the destination that it can move to, that destination's source the next, and so on to a destination that had none,

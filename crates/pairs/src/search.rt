@@ -1,7 +1,7 @@
 // The search for a way from a source with no destination to a destination with no source. It goes backwards, from the destinations:
 // what they may hear can move there, and so the destinations that those sources leave can be reached.
 use arrays::lists;
-ghost use Prim.Native.Nat.{ℕ, _<_, _≤_};
+ghost use Prim.Native.Nat.{_<_, _≤_};
 ghost use lib.ListN.{length};
 ghost use Rattle.pairs.specs.Ways.{Unpaired, Choice, Ready, Settled, Peeked, Spread, CanSearch, Searched};
 
@@ -13,11 +13,7 @@ pub fn free(n: usize, x: &[u8]) -> u64
     let mut s = nodes::none();
     let mut k = 0;
     while k < n {
-        if lists::byte(x, k) < n {
-            k += 1;
-            continue;
-        }
-        s = nodes::with(s, k);
+        s = nodes::with_where(s, k, lists::byte(x, k) >= n);
         k += 1;
     }
     s

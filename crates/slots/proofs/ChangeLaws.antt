@@ -8,9 +8,7 @@ use native.Mathlib.Numerals.{add-one}
 use borrow.Author.Count.{below-more}
 use borrow.Author.Tests.{eq-eqb, ne-eqb}
 use lib.Dec.{eqb}
-use lib.ListN.{getD}
 use Rattle.sums.specs.Sums.{sumTo, bit}
-use Rattle.sums.specs.Searches.{someBelow}
 use Rattle.sums.specs.Tables.{cell}
 use Rattle.sums.proofs.Sums.{sum-more, sum-none}
 use Rattle.sums.proofs.Searches.{some-none, some-at}

@@ -1,13 +1,12 @@
 -- What a schedule without conflict can carry: in a slot a source is heard once and a destination hears one, so over L slots the counts of
 -- a line sum to at most L. The laws assume nothing.
-use mathlib.Core.Path.{_≡_, refl, sym, ap, _∙_}
+use mathlib.Core.Path.{_≡_, sym, _∙_}
 use mathlib.Core.List.{List}
-use Prim.Native.Nat.{ℕ, zero, suc, _+_, _-_, _*_, _≤_, _<_}
+use Prim.Native.Nat.{ℕ, zero, suc, _+_, _-_, _≤_, _<_}
 use native.Mathlib.Omega.{arith}
-use lib.ListN.{getD}
 use Rattle.sums.specs.Sums.{sumTo, hit}
 use Rattle.sums.specs.Tables.{cell, square}
-use Rattle.sums.proofs.Sums.{sum-ext, sum-one, sum-swap, sum-all-zero, sum-hit, hit-same, hit-other}
+use Rattle.sums.proofs.Sums.{sum-ext, sum-one, sum-swap, sum-all-zero, hit-same, hit-other}
 use Rattle.sums.proofs.Cases.{by-eq, by-lt}
 use Rattle.sums.proofs.Tables.{square-cell}
 use Rattle.star.specs.Lines.{lineSum, wholeFrame, Admissible}

@@ -1,5 +1,6 @@
 -- Levels: what the loops over the table keep, and that pairs stay pairs where the level falls or weak pairs are freed. The laws assume nothing.
 use mathlib.Core.Path.{_≡_, refl, sym, ap, _∙_}
+use mathlib.Core.Bool.{Bool, true, false}
 use mathlib.Core.List.{List}
 use Prim.Native.Nat.{ℕ, _+_, _≤_, _<_}
 use native.Mathlib.Omega.{arith}
@@ -9,9 +10,9 @@ use lib.Seq.{getD-set-same, getD-set-other}
 use Rattle.sums.specs.Sums.{hit}
 use Rattle.sums.specs.Tables.{cell}
 use Rattle.sums.proofs.Sums.{hit-other}
-use Rattle.sums.proofs.Cases.{by-eq, by-lt}
+use Rattle.sums.proofs.Cases.{by-eq}
 use Rattle.star.specs.Tables.{Square}
-use Rattle.nodes.specs.Sets.{member, None, With, Without}
+use Rattle.nodes.specs.Sets.{member, None, WithWhere, Without}
 use Rattle.arrays.specs.Arrays.{Filled}
 use Rattle.pairs.specs.Pairs.{allowed, Paired, Rooms}
 use Rattle.holds.specs.Holds.{Taken}
@@ -26,20 +27,20 @@ pub record Allowing (n : ℕ) (padded : List ℕ) (level j s i : ℕ) : Type 0 w
 pub allow-start : (n : ℕ) (padded : List ℕ) (level j s : ℕ) → None s → Allowing n padded level j s 0
 allow-start n padded level j s e = record { upto = omega arith; in' = λ a lt. absurd (omega arith); out = λ a h. absurd (omega (arith, e .out a)) }
 
-module _ {n : ℕ} {padded : List ℕ} {level j s i : ℕ} (g : Allowing n padded level j s i) (hi : i < n) where
-  pub allow-skip : cell n padded i j < level → Allowing n padded level j s (i + 1)
-  allow-skip lt = record {
-    upto = omega arith;
-    in' = below-more (λ (a : ℕ). level ≤ cell n padded a j → member a s ≡ 1) i (g .in') (λ le. absurd (omega arith));
-    out = g .out;
-  }
-
-  pub allow-with : (s' : ℕ) → level ≤ cell n padded i j → With s i s' → Allowing n padded level j s' (i + 1)
-  allow-with s' le w = record {
-    upto = omega arith;
-    in' = below-more (λ (a : ℕ). level ≤ cell n padded a j → member a s' ≡ 1) i (λ a ha h. w .other a (λ e. omega arith) ∙ g .in' a ha h) (λ h. w .here);
-    out = λ a e. by-eq a i (λ q. rw q le) (λ ne. g .out a (sym (w .other a ne) ∙ e));
-  }
+pub allow-step : {n : ℕ} {padded : List ℕ} {level j s i : ℕ} → Allowing n padded level j s i → i < n → (test : Bool) (s' : ℕ)
+    → (test ≡ true → level ≤ cell n padded i j) → (test ≡ false → cell n padded i j < level) → WithWhere s i test s' → Allowing n padded level j s' (i + 1)
+allow-step {n} {padded} {level} {j} {s} {i} g hi true s' yes' no' w = record {
+  upto = omega arith;
+  in' = below-more (λ (a : ℕ). level ≤ cell n padded a j → member a s' ≡ 1) i (λ a ha h. w .other a (λ e. omega arith) ∙ g .in' a ha h) (λ h. w .added refl);
+  out = λ a e. by-eq a i (λ q. rw q (yes' refl)) (λ ne. g .out a (sym (w .other a ne) ∙ e));
+}
+allow-step {n} {padded} {level} {j} {s} {i} g hi false s' yes' no' w = record {
+  upto = omega arith;
+  in' = below-more (λ (a : ℕ). level ≤ cell n padded a j → member a s' ≡ 1) i (λ a ha h. w .other a (λ e. omega arith) ∙ g .in' a ha h) (λ h. absurd (omega (arith, no' refl)));
+  out = λ a e. by-eq a i
+      (λ q. g .out a (ap (λ (y : ℕ). member y s) q ∙ sym (w .left refl) ∙ ap (λ (y : ℕ). member y s') (sym q) ∙ e))
+      (λ ne. g .out a (sym (w .other a ne) ∙ e));
+}
 
 -- ---- the destinations below j
 pub record Leveling (n : ℕ) (padded : List ℕ) (level : ℕ) (may0 may : List ℕ) (j : ℕ) : Type 0 where

@@ -1,28 +1,26 @@
 -- The rounds: what holds before each, that at level 1 there always is a pairing, and how they start and end. The laws assume nothing.
-use mathlib.Core.Path.{_≡_, refl, sym, ap, _∙_}
+use mathlib.Core.Path.{_≡_, refl, sym, _∙_}
 use mathlib.Core.Logic.{inr}
 use mathlib.Core.Bool.{Bool, false}
 use mathlib.Core.List.{List}
 use Prim.Native.Nat.{ℕ, _+_, _-_, _*_, _≤_, _<_}
 use native.Mathlib.Omega.{arith}
 use lib.ListN.{length, getD, drop}
-use Rattle.sums.specs.Sums.{sumTo, hit}
+use Rattle.sums.specs.Sums.{hit}
 use Rattle.sums.specs.Tables.{cell}
 use Rattle.sums.proofs.Sums.{sum-none, hit-other}
 use Rattle.sums.proofs.Cases.{by-eq}
-use Rattle.star.specs.Lines.{lineSum}
-use Rattle.star.specs.Schedules.{ConflictFree, count, Carries}
+use Rattle.star.specs.Schedules.{count, Carries}
 use Rattle.star.proofs.LineLaws.{row-sum, column-sum, capacity}
-use Rattle.arrays.specs.Arrays.{Frame}
-use Rattle.arrays.proofs.Stores.{square-kept, frame-kept, frame-less, beyond-more}
+use Rattle.arrays.proofs.Stores.{square-kept, frame-kept, beyond-more}
 use Rattle.pairs.specs.Pairs.{allowed, Paired, Full, Rooms, CanMatch, Matched}
 use Rattle.pairs.proofs.Counts.{never-stuck, taken-all}
 use Rattle.idle.specs.Idle.{Small, Copied, Padded}
 use Rattle.idle.proofs.LineStores.{cell-row}
 use Rattle.holds.specs.Holds.{Placed, CanHold, Holds, Wrote}
 use Rattle.holds.proofs.Placing.{count-more, free-more}
-use Rattle.slots.specs.Levels.{HeardAt, Level}
-use Rattle.slots.specs.Rounds.{CanSettle, CanRound, Rounded}
+use Rattle.slots.specs.Levels.{Level}
+use Rattle.slots.specs.Rounds.{CanSettle, Rounded}
 use Rattle.slots.specs.Places.{CanPlace, Places}
 
 pub rooms-kept : {n : ℕ} {may may' source destination : List ℕ} → length may' ≡ length may → Rooms n may source destination → Rooms n may' source destination

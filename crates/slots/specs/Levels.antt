@@ -2,11 +2,11 @@
 use Prim.Native.Nat.{ℕ, _<_, _≤_}
 use mathlib.Core.Path.{_≡_}
 use mathlib.Core.List.{List}
-use lib.ListN.{length, getD}
+use lib.ListN.{getD}
 use Rattle.sums.specs.Tables.{cell}
 use Rattle.star.specs.Tables.{Square}
 use Rattle.nodes.specs.Sets.{member}
-use Rattle.pairs.specs.Pairs.{allowed, Paired, Rooms}
+use Rattle.pairs.specs.Pairs.{Paired, Rooms}
 
 -- s is the set of the sources whose pair with destination j has at least `level`
 pub record HeardAt (n : ℕ) (padded : List ℕ) (level j s : ℕ) : Type 0 where

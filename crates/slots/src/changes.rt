@@ -1,7 +1,7 @@
 // Switch changes: neighbouring slots that differ for some destination, idle being a value like any other.
 use arrays::frames;
 ghost use mathlib.Core.Path.{_≡_};
-ghost use Prim.Native.Nat.{ℕ, _≤_};
+ghost use Prim.Native.Nat.{_≤_};
 ghost use Rattle.star.specs.Schedules.{reconfigurations};
 ghost use Rattle.arrays.specs.Arrays.{Frame, Slot};
 ghost use Rattle.slots.specs.Changes.{slotsDiffer};

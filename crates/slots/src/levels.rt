@@ -1,8 +1,7 @@
 // The pairs that still get at least `level` slots. Any level from 1 on is right; a high one holds each pairing for long.
 use arrays::lists;
 use arrays::tables;
-ghost use mathlib.Core.Path.{_≡_};
-ghost use Prim.Native.Nat.{ℕ, _<_, _≤_};
+ghost use Prim.Native.Nat.{_<_, _≤_};
 ghost use lib.ListN.{length};
 ghost use Rattle.star.specs.Tables.{Square};
 ghost use Rattle.slots.specs.Levels.{HeardAt, Level, CanRenew, Renewed};
@@ -62,11 +61,7 @@ fn heard_at(n: usize, padded: &[u16], level: u32, j: usize) -> u64
     let mut s = nodes::none();
     let mut i = 0;
     while i < n {
-        if tables::get(n, padded, i, j) < level {
-            i += 1;
-            continue;
-        }
-        s = nodes::with(s, i);
+        s = nodes::with_where(s, i, tables::get(n, padded, i, j) >= level);
         i += 1;
     }
     s

@@ -1,6 +1,5 @@
 // Placing a kept matrix.
 use crate::rounds;
-ghost use Prim.Native.Nat.{ℕ, _<_, _≤_};
 ghost use Rattle.star.specs.Tables.{Square};
 ghost use Rattle.slots.specs.Places.{CanPlace, Places};
 

@@ -1,7 +1,6 @@
 // Pairing and holding until all slots are written.
 use crate::levels;
 use arrays::lists;
-ghost use Prim.Native.Nat.{ℕ, _<_, _≤_};
 ghost use Rattle.slots.specs.Rounds.{CanRound, CanSettle, Rounded};
 
 // Writes the r slots, with lists to work in: what may be paired, and the pairs.

@@ -1,11 +1,9 @@
-use Rattle.idle.proofs.Pads.{Topping, top-step}
+-- `idle::largest` meets its contract: no sum passed is above the number, and the number is one of them or 0. Assumes nothing.
 use Prim.Native.Nat.{_*_, _-_}
 use native.Mathlib.Omega.{arith}
+use Rattle.idle.proofs.Pads.{Topping, top-step}
 use Rattle.idle.proofs.largest.Statement.{statement}
 use Rattle.idle.proofs.largest.Tie as tie
-use Rattle.idle.proofs.largest.Reads as reads
-use Rattle.idle.proofs.largest.Lts as lts
-use Rattle.arrays.proofs.lists.number.Reads as number-reads
 
 abbrev Inv-loop : tie.InvT-loop
 Inv-loop n sums most₀ line₀ most line = Topping n sums most line
@@ -13,39 +11,30 @@ Inv-loop n sums most₀ line₀ most line = Topping n sums most line
 abbrev μ-loop : tie.MeasureT-loop
 μ-loop n sums most₀ line₀ most line = 2 * n - line
 
--- src/lib.rt:42:5
 loop-holds : tie.Need-loop-holds Inv-loop μ-loop
 loop-holds c = record { within = omega arith; above = λ ℓ lt. absurd (omega arith); least = λ b h. omega arith }
 
--- src/lib.rt:42:18
 mul-loop : tie.Need-mul-loop Inv-loop μ-loop
 mul-loop c = omega (arith, c .before .before .pre .0)
 
--- src/lib.rt:43:13
 number-requires : tie.Need-number-requires Inv-loop μ-loop
 number-requires c κs = omega (arith, c .before .before .before .pre .1)
 
--- src/lib.rt:44:9
 add-line : tie.Need-add-line Inv-loop μ-loop
 add-line c = omega (arith, c .before .before .before .before .pre .0)
 
--- src/lib.rt:42:5
 loop-less : tie.Need-loop-less Inv-loop μ-loop
 loop-less c = omega arith
 
--- src/lib.rt:42:5
 loop-again : tie.Need-loop-again Inv-loop μ-loop
 loop-again c = top-step _ (c .before .before .before .loop .inv) (c .before .before .loop-test .taken) (omega arith) (omega (arith, c .before .number .ensures)) (λ b h q. h)
 
--- src/lib.rt:42:5
 loop-less-2 : tie.Need-loop-less-2 Inv-loop μ-loop
 loop-less-2 c = omega arith
 
--- src/lib.rt:42:5
 loop-again-2 : tie.Need-loop-again-2 Inv-loop μ-loop
 loop-again-2 c = top-step _ (c .before .before .before .loop .inv) (c .before .before .loop-test .taken) (omega arith) (omega (arith, c .before .number .ensures)) (λ b h q. omega (arith, c .before .number .ensures))
 
--- src/lib.rt:36:1
 returns : tie.Need-returns Inv-loop μ-loop
 returns c = record { above = λ ℓ lt. c .before .loop .inv .above ℓ (omega arith); least = c .before .loop .inv .least }
 

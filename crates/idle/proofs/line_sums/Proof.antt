@@ -1,13 +1,10 @@
-use Rattle.idle.proofs.Pads.{Summing, sums-step, small-demands}
-use mathlib.Core.Path.{refl}
+-- `idle::line_sums` meets its contract: the sums of the lines before it are stored. Assumes nothing.
 use Prim.Native.Nat.{_*_, _-_}
 use native.Mathlib.Omega.{arith}
+use mathlib.Core.Path.{refl}
+use Rattle.idle.proofs.Pads.{Summing, sums-step, small-demands}
 use Rattle.idle.proofs.line_sums.Statement.{statement}
 use Rattle.idle.proofs.line_sums.Tie as tie
-use Rattle.idle.proofs.line_sums.Reads as reads
-use Rattle.idle.proofs.line_sums.Lts as lts
-use Rattle.arrays.proofs.lists.put_number.Reads as put-number-reads
-use Rattle.star.proofs.lines.line_sum.Reads as line-sum-reads
 
 abbrev Inv-loop : tie.InvT-loop
 Inv-loop n kept sums₀ line₀ sums line = Summing n kept sums₀ sums line
@@ -15,39 +12,30 @@ Inv-loop n kept sums₀ line₀ sums line = Summing n kept sums₀ sums line
 abbrev μ-loop : tie.MeasureT-loop
 μ-loop n kept sums₀ line₀ sums line = 2 * n - line
 
--- src/lib.rt:29:5
 loop-holds : tie.Need-loop-holds Inv-loop μ-loop
 loop-holds c = record { within = omega arith; len = refl; all = λ ℓ lt. absurd (omega arith) }
 
--- src/lib.rt:29:18
 mul-loop : tie.Need-mul-loop Inv-loop μ-loop
 mul-loop c = omega (arith, c .before .before .before .pre .0 .nodes)
 
--- src/lib.rt:30:39
 line-sum-requires : tie.Need-line-sum-requires Inv-loop μ-loop
 line-sum-requires c κs = (c .before .before .before .before .before .pre .0, (small-demands _ _ (c .before .before .before .before .before .pre .1), c .before .loop-test .taken))
 
--- src/lib.rt:30:9
 put-number-requires : tie.Need-put-number-requires Inv-loop μ-loop
 put-number-requires c κs = (omega (arith, c .before .before .before .before .before .before .pre .2, c .before .before .before .loop .inv .len), omega (arith, c .line-sum .ensures .0, c .before .before .before .before .before .before .pre .1 .lines (c .before .before .before .loop .line) (c .before .before .loop-test .taken)))
 
--- src/lib.rt:31:9
 add-line : tie.Need-add-line Inv-loop μ-loop
 add-line c = omega (arith, c .before .before .before .before .before .before .before .before .before .pre .0 .nodes)
 
--- src/lib.rt:29:5
 loop-less : tie.Need-loop-less Inv-loop μ-loop
 loop-less c = omega arith
 
--- src/lib.rt:29:5
 loop-again : tie.Need-loop-again Inv-loop μ-loop
 loop-again c = rw (c .before .before .put-number .ensures) (sums-step (c .before .before .before .before .before .before .before .before .before .pre .2) (c .before .before .before .before .before .before .loop .inv) (c .before .before .before .before .before .loop-test .taken) (c .before .before .before .line-sum .ensures .0))
 
--- src/lib.rt:24:1
 same-length : tie.Need-same-length Inv-loop μ-loop
 same-length c = c .before .loop .inv .len
 
--- src/lib.rt:24:1
 returns : tie.Need-returns Inv-loop μ-loop
 returns c = record { all = λ ℓ lt. c .before .loop .inv .all ℓ (omega arith) }
 

@@ -1,75 +1,54 @@
+-- `idle::pad_at` meets its contract: both lines of the pair gain what they lack less. Assumes nothing.
 use Prim.Native.Nat.{_+_}
-use Rattle.idle.proofs.Pads.{pad-small, pad-law}
-use mathlib.Core.Path.{_∙_}
 use native.Mathlib.Omega.{arith}
+use mathlib.Core.Path.{_∙_}
 use borrow.Author.Needs.{needs}
+use Rattle.idle.proofs.Pads.{pad-small, pad-law}
 use Rattle.idle.proofs.pad_at.Statement.{statement}
 use Rattle.idle.proofs.pad_at.Tie as tie
-use Rattle.idle.proofs.pad_at.Reads as reads
-use Rattle.idle.proofs.pad_at.Lts as lts
-use Rattle.arrays.proofs.lists.number.Reads as number-reads
-use Rattle.arrays.proofs.lists.put_number.Reads as put-number-reads
-use Rattle.arrays.proofs.tables.get.Reads as get-reads
-use Rattle.arrays.proofs.tables.put.Reads as put-reads
-use Rattle.idle.proofs.smaller.Reads as smaller-reads
 
--- src/lib.rt:79:9
 number-requires : tie.Need-number-requires
 number-requires c κs = omega (arith, c .before .before .before .pre .0 .lines)
 
--- src/lib.rt:80:38
 add-number : tie.Need-add-number
 add-number c = omega (arith, c .before .before .before .before .before .pre .0 .square .nodes)
 
--- src/lib.rt:80:9
 number-requires-2 : tie.Need-number-requires-2
 number-requires-2 c κs = omega (arith, c .before .before .before .before .before .pre .0 .lines)
 
--- src/lib.rt:81:9
 smaller-requires : tie.Need-smaller-requires
 smaller-requires c κs = search needs
 
--- src/lib.rt:82:34
 get-requires : tie.Need-get-requires
 get-requires c κs = (c .before .before .before .before .before .before .before .before .before .pre .0 .square, c .before .before .before .before .before .before .before .before .before .pre .1)
 
--- src/lib.rt:82:34
 add-put : tie.Need-add-put
 add-put c = omega (arith, c .get .ensures .0, pad-small (c .before .before .before .before .before .before .before .before .before .before .pre .0) (c .before .before .before .before .before .before .before .before .before .before .pre .1 .0) (c .before .before .before .before .before .before .before .before .before .before .pre .1 .1) (c .before .before .before .before .before .before .number .ensures) (c .before .before .before .before .number2 .ensures) (c .before .before .before .smaller .ensures))
 
--- src/lib.rt:82:5
 put-requires : tie.Need-put-requires
 put-requires c κs = (c .before .before .before .before .before .before .before .before .before .before .pre .0 .square, (c .before .before .before .before .before .before .before .before .before .before .pre .1 .0, c .before .before .before .before .before .before .before .before .before .before .pre .1 .1, omega (arith, c .get .ensures .0, pad-small (c .before .before .before .before .before .before .before .before .before .before .pre .0) (c .before .before .before .before .before .before .before .before .before .before .pre .1 .0) (c .before .before .before .before .before .before .before .before .before .before .pre .1 .1) (c .before .before .before .before .before .before .number .ensures) (c .before .before .before .before .number2 .ensures) (c .before .before .before .smaller .ensures))))
 
--- src/lib.rt:83:32
 sub-put-number : tie.Need-sub-put-number
 sub-put-number c = omega (arith, c .before .before .before .before .before .before .before .smaller .ensures)
 
--- src/lib.rt:83:5
 put-number-requires : tie.Need-put-number-requires
 put-number-requires c κs = (omega (arith, c .before .before .before .before .before .before .before .before .before .before .before .before .before .before .pre .0 .lines), omega (arith, c .before .before .before .before .before .before .before .before .before .before .number .ensures, c .before .before .before .before .before .before .before .before .before .before .before .before .before .before .pre .0 .small, c .before .before .before .before .before .before .before .before .before .before .before .before .before .before .pre .0 .lacks .lines (c .before .before .before .before .before .before .before .before .before .before .before .before .before .before .args .i) (omega (arith, c .before .before .before .before .before .before .before .before .before .before .before .before .before .before .pre .1 .0))))
 
--- src/lib.rt:84:29
 add-put-number : tie.Need-add-put-number
 add-put-number c = omega (arith, c .before .before .before .before .before .before .before .before .before .before .before .before .before .before .before .before .before .before .pre .0 .square .nodes)
 
--- src/lib.rt:84:36
 sub-put-number-2 : tie.Need-sub-put-number-2
 sub-put-number-2 c = omega (arith, c .before .before .before .before .before .before .before .before .before .before .before .smaller .ensures)
 
--- src/lib.rt:84:5
 put-number-requires-2 : tie.Need-put-number-requires-2
 put-number-requires-2 c κs = (omega (arith, c .before .before .before .before .before .before .before .before .before .before .before .before .before .before .before .before .before .before .pre .0 .lines, c .before .before .before .put-number .kept .0, c .before .before .before .before .before .before .before .before .before .before .before .before .before .before .before .before .before .before .pre .1 .1), omega (arith, c .before .before .before .before .before .before .before .before .before .before .before .before .number2 .ensures, c .before .before .before .before .before .before .before .before .before .before .before .before .before .before .before .before .before .before .pre .0 .small, c .before .before .before .before .before .before .before .before .before .before .before .before .before .before .before .before .before .before .pre .0 .lacks .lines (c .before .before .before .before .before .before .before .before .before .before .before .before .before .before .before .before .before .before .args .n + c .before .before .before .before .before .before .before .before .before .before .before .before .before .before .before .before .before .before .args .j) (omega (arith, c .before .before .before .before .before .before .before .before .before .before .before .before .before .before .before .before .before .before .pre .1 .1))))
 
--- src/lib.rt:74:1
 same-length : tie.Need-same-length
 same-length c = c .before .before .before .before .before .before .before .before .before .before .put .kept .1 .0
 
--- src/lib.rt:74:1
 same-length-2 : tie.Need-same-length-2
 same-length-2 c = c .before .before .put-number2 .kept .0 ∙ c .before .before .before .before .before .before .put-number .kept .0
 
--- src/lib.rt:74:1
 returns : tie.Need-returns
 returns c = rw (c .before .before .before .before .before .before .before .before .before .before .put .ensures, c .before .before .before .before .before .before .before .before .before .before .before .get .ensures .0, c .before .before .put-number2 .ensures, c .before .before .before .before .before .before .put-number .ensures) (pad-law (c .before .before .before .before .before .before .before .before .before .before .before .before .before .before .before .before .before .before .before .before .before .pre .0) (c .before .before .before .before .before .before .before .before .before .before .before .before .before .before .before .before .before .before .before .before .before .pre .1 .0) (c .before .before .before .before .before .before .before .before .before .before .before .before .before .before .before .before .before .before .before .before .before .pre .1 .1) (c .before .before .before .before .before .before .before .before .before .before .before .before .before .before .before .before .before .number .ensures) (c .before .before .before .before .before .before .before .before .before .before .before .before .before .before .before .number2 .ensures) (c .before .before .before .before .before .before .before .before .before .before .before .before .before .before .smaller .ensures))
 

@@ -1,11 +1,9 @@
-use Rattle.idle.proofs.Pads.{RowPadding, row-start, row-can, row-step, row-end}
+-- `idle::pad_row` meets its contract: of each pair passed the row or the column lacks nothing. Assumes nothing.
 use Prim.Native.Nat.{_-_}
 use native.Mathlib.Omega.{arith}
+use Rattle.idle.proofs.Pads.{RowPadding, row-start, row-can, row-step, row-end}
 use Rattle.idle.proofs.pad_row.Statement.{statement}
 use Rattle.idle.proofs.pad_row.Tie as tie
-use Rattle.idle.proofs.pad_row.Reads as reads
-use Rattle.idle.proofs.pad_row.Lts as lts
-use Rattle.idle.proofs.pad_at.Reads as pad-at-reads
 
 abbrev Inv-loop : tie.InvT-loop
 Inv-loop n padded₀ lack₀ i j₀ padded lack j = RowPadding n padded₀ lack₀ padded lack i j
@@ -13,35 +11,27 @@ Inv-loop n padded₀ lack₀ i j₀ padded lack j = RowPadding n padded₀ lack�
 abbrev μ-loop : tie.MeasureT-loop
 μ-loop n padded₀ lack₀ i j₀ padded lack j = n - j
 
--- src/lib.rt:94:5
 loop-holds : tie.Need-loop-holds Inv-loop μ-loop
 loop-holds c = row-start _ _ _ _
 
--- src/lib.rt:95:9
 pad-at-requires : tie.Need-pad-at-requires Inv-loop μ-loop
 pad-at-requires c κs = (row-can (c .before .before .before .before .before .before .pre .0) (c .before .before .before .loop .inv), (c .before .before .before .before .before .before .pre .1, c .before .before .loop-test .taken))
 
--- src/lib.rt:96:9
 add-j : tie.Need-add-j Inv-loop μ-loop
 add-j c = omega (arith, c .before .before .before .before .before .before .before .before .before .before .before .pre .0 .square .nodes)
 
--- src/lib.rt:94:5
 loop-less : tie.Need-loop-less Inv-loop μ-loop
 loop-less c = omega arith
 
--- src/lib.rt:94:5
 loop-again : tie.Need-loop-again Inv-loop μ-loop
 loop-again c = row-step (c .before .before .before .before .before .before .before .before .before .before .before .pre .1) (c .before .before .before .before .before .before .before .loop-test .taken) (c .before .before .before .before .before .before .before .before .loop .inv) (c .before .before .before .before .pad-at .kept .1 .0) (c .before .before .before .before .pad-at .kept .1 .1 .0) (c .before .before .before .before .pad-at .ensures)
 
--- src/lib.rt:88:1
 same-length : tie.Need-same-length Inv-loop μ-loop
 same-length c = c .before .loop .inv .table-len
 
--- src/lib.rt:88:1
 same-length-2 : tie.Need-same-length-2 Inv-loop μ-loop
 same-length-2 c = c .before .loop .inv .lack-len
 
--- src/lib.rt:88:1
 returns : tie.Need-returns Inv-loop μ-loop
 returns c = row-end (c .before .loop .inv) (c .loop-test .left)
 

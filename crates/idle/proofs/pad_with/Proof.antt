@@ -1,46 +1,32 @@
-use Rattle.idle.proofs.Pads.{most-small, lacks-of, padded-of}
-use Rattle.arrays.proofs.Stores.{square-kept}
+-- `idle::pad_with` meets its contract: the steps one after the other: a copy, the sums, the largest, what is lacking, and the padding. Assumes nothing.
 use native.Mathlib.Omega.{arith}
 use borrow.Author.Needs.{needs}
+use Rattle.arrays.proofs.Stores.{square-kept}
+use Rattle.idle.proofs.Pads.{most-small, lacks-of, padded-of}
 use Rattle.idle.proofs.pad_with.Statement.{statement}
 use Rattle.idle.proofs.pad_with.Tie as tie
-use Rattle.idle.proofs.pad_with.Reads as reads
-use Rattle.idle.proofs.pad_with.Lts as lts
-use Rattle.idle.proofs.copy.Reads as copy-reads
-use Rattle.idle.proofs.lacks.Reads as lacks-reads
-use Rattle.idle.proofs.largest.Reads as largest-reads
-use Rattle.idle.proofs.line_sums.Reads as line-sums-reads
-use Rattle.idle.proofs.pad_all.Reads as pad-all-reads
 
--- src/lib.rt:118:5
 copy-requires : tie.Need-copy-requires
 copy-requires c κs = search needs
 
--- src/lib.rt:119:5
 line-sums-requires : tie.Need-line-sums-requires
 line-sums-requires c κs = search needs
 
--- src/lib.rt:120:9
 largest-requires : tie.Need-largest-requires
 largest-requires c κs = search needs
 
--- src/lib.rt:121:5
 lacks-requires : tie.Need-lacks-requires
 lacks-requires c κs = (c .before .before .before .before .before .before .before .before .before .before .before .before .before .before .pre .0 .square .nodes, omega (arith, c .before .before .before .before .before .before .before .before .before .before .before .before .before .before .pre .1, c .before .before .before .before .before .line-sums .kept .1 .1 .0), most-small (c .before .before .before .before .before .before .before .before .before .before .before .before .before .before .pre .0 .small) (c .before .before .before .before .before .line-sums .ensures) (c .before .largest .ensures), c .before .largest .ensures)
 
--- src/lib.rt:122:5
 pad-all-requires : tie.Need-pad-all-requires
 pad-all-requires c κs = record { square = square-kept (c .before .before .before .before .before .before .before .before .before .before .before .before .before .before .before .before .before .before .before .args .padded .now) _ (c .before .before .before .before .before .before .before .before .before .before .before .before .before .before .copy .kept .1 .1 .0) (c .before .before .before .before .before .before .before .before .before .before .before .before .before .before .before .before .before .before .before .pre .0 .table); lines = omega (arith, c .before .before .before .before .before .before .before .before .before .before .before .before .before .before .before .before .before .before .before .pre .1, c .before .before .before .before .before .before .before .before .before .before .line-sums .kept .1 .1 .0, c .before .before .before .before .lacks .kept .1 .0); r = c .before .before .before .before .before .before .largest .result; small = most-small (c .before .before .before .before .before .before .before .before .before .before .before .before .before .before .before .before .before .before .before .pre .0 .small) (c .before .before .before .before .before .before .before .before .before .before .line-sums .ensures) (c .before .before .before .before .before .before .largest .ensures); lacks = lacks-of (c .before .before .before .before .before .before .before .before .before .before .before .before .before .before .copy .ensures) (c .before .before .before .before .before .before .before .before .before .before .line-sums .ensures) (c .before .before .before .before .before .before .largest .ensures) (c .before .before .before .before .lacks .ensures) }
 
--- src/lib.rt:113:1
 same-length : tie.Need-same-length
 same-length c = search needs
 
--- src/lib.rt:113:1
 same-length-2 : tie.Need-same-length-2
 same-length-2 c = search needs
 
--- src/lib.rt:113:1
 returns : tie.Need-returns
 returns c = padded-of (c .before .before .before .before .before .before .before .before .before .before .before .before .before .before .before .before .before .before .before .copy .ensures) (c .before .before .before .before .before .before .before .before .before .before .before .before .before .before .before .line-sums .ensures) (c .before .before .before .before .before .before .before .before .before .before .before .largest .ensures) (c .before .before .before .before .before .before .before .before .before .lacks .ensures) (c .before .before .before .before .pad-all .ensures)
 

@@ -1,10 +1,8 @@
+-- `nodes::both` meets its contract: an and, digit by digit. Assumes nothing.
 use Rattle.nodes.proofs.Members.{and-member}
 use Rattle.nodes.proofs.both.Statement.{statement}
 use Rattle.nodes.proofs.both.Tie as tie
-use Rattle.nodes.proofs.both.Reads as reads
-use Rattle.nodes.proofs.both.Lts as lts
 
--- src/lib.rt:45:1
 returns : tie.Need-returns
 returns c = record { members = λ j. and-member j _ _ }
 

@@ -1,16 +1,13 @@
+-- `nodes::first` meets its contract: the trailing zeros are the digits before the first 1. Assumes nothing.
 use native.Mathlib.Omega.{arith}
 use lib.Count.{trailing-le}
 use Rattle.nodes.proofs.Members.{first-law}
 use Rattle.nodes.proofs.first.Statement.{statement}
 use Rattle.nodes.proofs.first.Tie as tie
-use Rattle.nodes.proofs.first.Reads as reads
-use Rattle.nodes.proofs.first.Lts as lts
 
--- src/lib.rt:62:5
 cast-result : tie.Need-cast-result
 cast-result c = omega (arith, trailing-le 64 (c .args .s))
 
--- src/lib.rt:59:1
 returns : tie.Need-returns
 returns c = first-law _
 

@@ -1,15 +1,12 @@
-use Rattle.nodes.proofs.Members.{has-law}
+-- `nodes::has` meets its contract: a shift brings digit i to the front. Assumes nothing.
 use borrow.Author.Needs.{needs}
+use Rattle.nodes.proofs.Members.{has-law}
 use Rattle.nodes.proofs.has.Statement.{statement}
 use Rattle.nodes.proofs.has.Tie as tie
-use Rattle.nodes.proofs.has.Reads as reads
-use Rattle.nodes.proofs.has.Lts as lts
 
--- src/lib.rt:25:6
 shr-result : tie.Need-shr-result
 shr-result c = search needs
 
--- src/lib.rt:21:1
 returns : tie.Need-returns
 returns c = has-law _ _
 

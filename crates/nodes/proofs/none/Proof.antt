@@ -1,10 +1,8 @@
+-- `nodes::none` meets its contract: no binary digit of 0 is 1. Assumes nothing.
 use Rattle.nodes.proofs.Members.{member-none}
 use Rattle.nodes.proofs.none.Statement.{statement}
 use Rattle.nodes.proofs.none.Tie as tie
-use Rattle.nodes.proofs.none.Reads as reads
-use Rattle.nodes.proofs.none.Lts as lts
 
--- src/lib.rt:7:1
 returns : tie.Need-returns
 returns c = record { out = member-none }
 

@@ -1,15 +1,12 @@
-use Rattle.nodes.proofs.Members.{without-law}
+-- `nodes::without` meets its contract: what the set shares with that of node i is taken out, digit by digit. Assumes nothing.
 use borrow.Author.Needs.{needs}
+use Rattle.nodes.proofs.Members.{without-law}
 use Rattle.nodes.proofs.without.Statement.{statement}
 use Rattle.nodes.proofs.without.Tie as tie
-use Rattle.nodes.proofs.without.Reads as reads
-use Rattle.nodes.proofs.without.Lts as lts
 
--- src/lib.rt:41:15
 shl-result : tie.Need-shl-result
 shl-result c = search needs
 
--- src/lib.rt:37:1
 returns : tie.Need-returns
 returns c = without-law _ _ (c .pre)
 

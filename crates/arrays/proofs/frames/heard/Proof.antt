@@ -1,24 +1,19 @@
-use Rattle.sums.specs.Tables.{cell}
-use borrow.Author.Needs.{needs}
+-- `arrays::frames::heard` meets its contract: a destination's place is within its slot. Assumes nothing.
 use native.Mathlib.Omega.{arith}
+use borrow.Author.Needs.{needs}
+use Rattle.sums.specs.Tables.{cell}
 use Rattle.arrays.proofs.frames.heard.Statement.{statement}
 use Rattle.arrays.proofs.frames.heard.Tie as tie
-use Rattle.arrays.proofs.frames.heard.Reads as reads
-use Rattle.arrays.proofs.frames.heard.Lts as lts
 
--- src/frames.rt:14:14
 mul-result : tie.Need-mul-result
 mul-result c = omega (arith, c .pre .0 .cells)
 
--- src/frames.rt:14:14
 add-result : tie.Need-add-result
 add-result c = omega (arith, c .pre .0 .cells)
 
--- src/frames.rt:14:5
 shared-slice-read-result : tie.Need-shared-slice-read-result
 shared-slice-read-result c = omega (arith, c .before .pre .0 .cells)
 
--- src/frames.rt:9:1
 returns : tie.Need-returns
 unfolding cell
 returns c = search needs

@@ -1,23 +1,18 @@
+-- `arrays::lists::number` meets its contract: a 16-bit number fits 32 bits. Assumes nothing.
 use native.Mathlib.Omega.{arith}
 use borrow.Author.Needs.{needs}
 use Rattle.arrays.proofs.lists.number.Statement.{statement}
 use Rattle.arrays.proofs.lists.number.Tie as tie
-use Rattle.arrays.proofs.lists.number.Reads as reads
-use Rattle.arrays.proofs.lists.number.Lts as lts
 
--- src/lists.rt:40:5
 mul-result : tie.Need-mul-result
 mul-result c = search needs
 
--- src/lists.rt:40:5
 shared-slice-read-result : tie.Need-shared-slice-read-result
 shared-slice-read-result c = search needs
 
--- src/lists.rt:40:5
 cast-result : tie.Need-cast-result
 cast-result c = omega (arith, c .shared-slice-known .given (c .before .args .k))
 
--- src/lists.rt:36:1
 returns : tie.Need-returns
 returns c = search needs
 

@@ -1,12 +1,10 @@
-use Rattle.holds.proofs.Turns.{Filling, fill-start, fill-step, fill-end}
-use Rattle.arrays.proofs.Stores.{frame-kept, frame-slot}
+-- `holds::writing::write` meets its contract: the slots passed hold the bytes, and nothing else has changed. Assumes nothing.
 use Prim.Native.Nat.{_-_}
 use native.Mathlib.Omega.{arith}
+use Rattle.arrays.proofs.Stores.{frame-kept, frame-slot}
+use Rattle.holds.proofs.Turns.{Filling, fill-start, fill-step, fill-end}
 use Rattle.holds.proofs.writing.write.Statement.{statement}
 use Rattle.holds.proofs.writing.write.Tie as tie
-use Rattle.holds.proofs.writing.write.Reads as reads
-use Rattle.holds.proofs.writing.write.Lts as lts
-use Rattle.holds.proofs.writing.write_slot.Reads as write-slot-reads
 
 abbrev Inv-loop : tie.InvT-loop
 Inv-loop n schedule₀ bytes from to k₀ schedule k = Filling n schedule₀ schedule bytes from to k
@@ -14,31 +12,24 @@ Inv-loop n schedule₀ bytes from to k₀ schedule k = Filling n schedule₀ sch
 abbrev μ-loop : tie.MeasureT-loop
 μ-loop n schedule₀ bytes from to k₀ schedule k = to - k
 
--- src/writing.rt:28:5
 loop-holds : tie.Need-loop-holds Inv-loop μ-loop
 loop-holds c = fill-start _ _ _ _ _ (c .before .before .pre .1 .1)
 
--- src/writing.rt:29:9
 write-slot-requires : tie.Need-write-slot-requires Inv-loop μ-loop
 write-slot-requires c κs = (c .before .before .before .before .before .pre .0 .nodes, frame-slot (frame-kept (c .before .before .before .before .before .args .schedule .now) _ (c .before .before .loop .inv .len) (c .before .before .before .before .before .pre .0)) (c .before .loop-test .taken), c .before .before .before .before .before .pre .1 .0)
 
--- src/writing.rt:30:9
 add-k : tie.Need-add-k Inv-loop μ-loop
 add-k c = omega (arith, c .before .before .before .before .before .before .before .before .pre .0 .slots)
 
--- src/writing.rt:28:5
 loop-less : tie.Need-loop-less Inv-loop μ-loop
 loop-less c = omega arith
 
--- src/writing.rt:28:5
 loop-again : tie.Need-loop-again Inv-loop μ-loop
 loop-again c = fill-step (c .before .before .before .before .loop-test .taken) (c .before .before .write-slot .kept .1 .0) (c .before .before .before .before .before .loop .inv) (c .before .before .write-slot .ensures)
 
--- src/writing.rt:22:1
 same-length : tie.Need-same-length Inv-loop μ-loop
 same-length c = c .before .loop .inv .len
 
--- src/writing.rt:22:1
 returns : tie.Need-returns Inv-loop μ-loop
 returns c = fill-end (c .before .loop .inv) (c .loop-test .left)
 

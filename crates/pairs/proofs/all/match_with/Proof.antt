@@ -1,21 +1,12 @@
-use Rattle.pairs.proofs.Matches.{Working, work-search, work-flip, work-flipped, work-paired, work-falls, work-all, work-none, fewer-falls}
-use Rattle.pairs.proofs.Scans.{choice-there}
-use Rattle.nodes.specs.Sets.{size}
+-- `pairs::all::match_with` meets its contract: the loop keeps pairs and free nodes known; each turn leaves one destination fewer free. Assumes nothing.
+use native.Mathlib.Omega.{arith}
 use mathlib.Core.Path.{refl, _∙_}
 use borrow.Author.Needs.{needs}
-use native.Mathlib.Omega.{arith}
+use Rattle.nodes.specs.Sets.{size}
+use Rattle.pairs.proofs.Matches.{Working, work-search, work-flip, work-flipped, work-paired, work-falls, work-all, work-none, fewer-falls}
+use Rattle.pairs.proofs.Scans.{choice-there}
 use Rattle.pairs.proofs.all.match_with.Statement.{statement}
 use Rattle.pairs.proofs.all.match_with.Tie as tie
-use Rattle.pairs.proofs.all.match_with.Reads as reads
-use Rattle.pairs.proofs.all.match_with.Lts as lts
-use Rattle.arrays.proofs.lists.put_byte.Reads as put-byte-reads
-use Rattle.nodes.proofs.first.Reads as first-reads
-use Rattle.nodes.proofs.without.Reads as without-reads
-use Rattle.pairs.proofs.flip.flip.Reads as flip-reads
-use Rattle.pairs.proofs.search.choice.Reads as choice-reads
-use Rattle.pairs.proofs.search.free.Reads as free-reads
-use Rattle.pairs.proofs.search.ready.Reads as ready-reads
-use Rattle.pairs.proofs.search.search.Reads as search-reads
 
 abbrev Inv-loop : tie.InvT-loop
 Inv-loop n may source₀ destination₀ next₀ destinations₀ sources₀ source destination next destinations sources = Working n may source₀ destination₀ next₀ source destination next sources destinations
@@ -23,107 +14,81 @@ Inv-loop n may source₀ destination₀ next₀ destinations₀ sources₀ sourc
 abbrev μ-loop : tie.MeasureT-loop
 μ-loop n may source₀ destination₀ next₀ destinations₀ sources₀ source destination next destinations sources = size n destinations
 
--- src/all.rt:15:9
 free-requires : tie.Need-free-requires Inv-loop μ-loop
 free-requires c κs = (c .before .before .before .before .before .pre .0 .rooms .nodes, c .before .before .before .before .before .pre .0 .rooms .sources)
 
--- src/all.rt:16:9
 free-requires-2 : tie.Need-free-requires-2 Inv-loop μ-loop
 free-requires-2 c κs = (c .before .before .before .before .before .before .before .pre .0 .rooms .nodes, c .before .before .before .before .before .before .before .pre .0 .rooms .destinations)
 
--- src/all.rt:17:5
 loop-holds : tie.Need-loop-holds Inv-loop μ-loop
 loop-holds c = record { paired = c .before .before .before .before .before .before .before .before .pre .0 .paired; free-sources = c .free2 .ensures; free-destinations = c .before .before .free .ensures; source-len = refl; destination-len = refl; next-len = refl }
 
--- src/all.rt:18:13
 ready-requires : tie.Need-ready-requires Inv-loop μ-loop
 ready-requires c κs = (c .before .before .before .before .before .before .before .before .before .pre .0 .rooms .nodes, c .before .before .before .before .before .before .before .before .before .pre .0 .rooms .mays)
 
--- src/all.rt:20:17
 choice-requires : tie.Need-choice-requires Inv-loop μ-loop
 choice-requires c κs = (c .before .before .before .before .before .before .before .before .before .before .before .pre .0 .rooms .nodes, c .before .before .before .before .before .before .before .before .before .before .before .pre .0 .rooms .mays, c .if1 .taken)
 
--- src/all.rt:21:13
 put-byte-requires : tie.Need-put-byte-requires Inv-loop μ-loop
 put-byte-requires c κs = (omega (arith, c .before .before .before .before .before .before .before .before .before .before .before .before .before .pre .0 .rooms .sources, c .before .before .before .before .loop .inv .source-len), omega (arith, c .before .before .before .before .before .before .before .before .before .before .before .before .before .pre .0 .rooms .nodes, choice-there (c .before .choice .ensures) (c .before .before .before .ready .ensures .hears (c .before .before .if1 .taken))))
 
--- src/all.rt:22:13
 put-byte-requires-2 : tie.Need-put-byte-requires-2 Inv-loop μ-loop
 put-byte-requires-2 c κs = (omega (arith, c .before .before .before .before .before .before .before .before .before .before .before .before .before .before .before .before .before .pre .0 .rooms .destinations, c .before .before .before .before .before .before .before .before .loop .inv .destination-len, choice-there (c .before .before .before .before .before .choice .ensures) (c .before .before .before .before .before .before .before .ready .ensures .hears (c .before .before .before .before .before .before .if1 .taken))), omega (arith, c .before .before .before .before .before .before .before .before .before .before .before .before .before .before .before .before .before .pre .0 .rooms .nodes))
 
--- src/all.rt:23:13
 without-requires : tie.Need-without-requires Inv-loop μ-loop
 without-requires c κs = omega (arith, c .before .before .before .before .before .before .before .before .before .before .before .before .before .before .before .before .before .before .before .before .pre .0 .rooms .nodes, choice-there (c .before .before .before .before .before .before .before .before .choice .ensures) (c .before .before .before .before .before .before .before .before .before .before .ready .ensures .hears (c .before .before .before .before .before .before .before .before .before .if1 .taken)))
 
--- src/all.rt:24:13
 without-requires-2 : tie.Need-without-requires-2 Inv-loop μ-loop
 without-requires-2 c κs = omega (arith, c .before .before .before .before .before .before .before .before .before .before .before .before .before .before .before .before .before .before .before .before .before .pre .0 .rooms .nodes)
 
--- src/all.rt:17:5
 loop-less : tie.Need-loop-less Inv-loop μ-loop
 loop-less c = work-falls (c .before .before .before .before .before .before .before .before .before .before .before .before .before .before .before .before .before .before .before .before .before .before .pre .0) (c .before .before .before .before .before .before .before .before .before .before .before .before .before .before .before .before .before .before .before .before .before .before .pre .1) (c .before .before .before .before .before .before .before .before .before .before .before .before .before .loop .inv) (c .before .before .before .before .before .before .before .before .before .before .before .before .ready .ensures) (c .before .before .before .before .before .before .before .before .before .before .before .if1 .taken) (c .before .before .before .before .before .before .before .before .before .before .choice .ensures) (choice-there (c .before .before .before .before .before .before .before .before .before .before .choice .ensures) (c .before .before .before .before .before .before .before .before .before .before .before .before .ready .ensures .hears (c .before .before .before .before .before .before .before .before .before .before .before .if1 .taken))) (c .without2 .ensures)
 
--- src/all.rt:17:5
 loop-again : tie.Need-loop-again Inv-loop μ-loop
 loop-again c = rw (c .before .before .before .before .before .before .before .before .put-byte .ensures, c .before .before .before .before .put-byte2 .ensures) (work-paired (c .before .before .before .before .before .before .before .before .before .before .before .before .before .before .before .before .before .before .before .before .before .before .pre .0) (c .before .before .before .before .before .before .before .before .before .before .before .before .before .before .before .before .before .before .before .before .before .before .pre .1) (c .before .before .before .before .before .before .before .before .before .before .before .before .before .loop .inv) (c .before .before .before .before .before .before .before .before .before .before .before .before .ready .ensures) (c .before .before .before .before .before .before .before .before .before .before .before .if1 .taken) (c .before .before .before .before .before .before .before .before .before .before .choice .ensures) (choice-there (c .before .before .before .before .before .before .before .before .before .before .choice .ensures) (c .before .before .before .before .before .before .before .before .before .before .before .before .ready .ensures .hears (c .before .before .before .before .before .before .before .before .before .before .before .if1 .taken))) (c .before .without .ensures) (c .without2 .ensures))
 
--- src/all.rt:27:12
 first-requires : tie.Need-first-requires Inv-loop μ-loop
 first-requires c κs = search needs
 
--- src/all.rt:28:13
 same-length : tie.Need-same-length Inv-loop μ-loop
 same-length c = c .before .before .before .before .loop .inv .source-len
 
--- src/all.rt:28:13
 same-length-2 : tie.Need-same-length-2 Inv-loop μ-loop
 same-length-2 c = c .before .before .before .before .loop .inv .destination-len
 
--- src/all.rt:28:13
 same-length-3 : tie.Need-same-length-3 Inv-loop μ-loop
 same-length-3 c = c .before .before .before .before .loop .inv .next-len
 
--- src/all.rt:28:13
 returns : tie.Need-returns Inv-loop μ-loop
 returns c = work-all (c .before .before .before .before .before .before .before .before .before .before .before .before .before .pre .0) (c .before .before .before .before .before .before .before .before .before .before .before .before .before .pre .1) (c .before .before .before .before .loop .inv) (c .before .first .ensures) (c .if2 .taken)
 
--- src/all.rt:30:13
 search-requires : tie.Need-search-requires Inv-loop μ-loop
 search-requires c κs = work-search (c .before .before .before .before .before .before .before .before .before .before .before .before .before .before .before .pre .0) (c .before .before .before .before .before .before .before .before .before .before .before .before .before .before .before .pre .1) (c .before .before .before .before .before .before .loop .inv) (c .before .before .before .before .before .ready .ensures) (c .before .before .before .before .if1 .left)
 
--- src/all.rt:32:13
 same-length-4 : tie.Need-same-length-4 Inv-loop μ-loop
 same-length-4 c = c .before .before .before .before .before .before .before .before .before .before .loop .inv .source-len
 
--- src/all.rt:32:13
 same-length-5 : tie.Need-same-length-5 Inv-loop μ-loop
 same-length-5 c = c .before .before .before .before .before .before .before .before .before .before .loop .inv .destination-len
 
--- src/all.rt:32:13
 same-length-6 : tie.Need-same-length-6 Inv-loop μ-loop
 same-length-6 c = c .before .before .before .search .kept .1 .1 .1 .0 ∙ c .before .before .before .before .before .before .before .before .before .before .loop .inv .next-len
 
--- src/all.rt:32:13
 returns-2 : tie.Need-returns-2 Inv-loop μ-loop
 returns-2 c = work-none (c .before .before .before .before .before .before .before .before .before .before .before .before .before .before .before .before .before .before .before .pre .0) (c .before .before .before .before .before .before .before .before .before .before .before .before .before .before .before .before .before .before .before .pre .1) (c .before .before .before .before .before .before .before .before .before .before .loop .inv) (c .before .before .before .before .before .before .before .first .ensures) (c .before .before .before .before .before .before .if2 .left) (c .before .before .before .search .ensures) (c .if3 .taken)
 
--- src/all.rt:34:13
 flip-requires : tie.Need-flip-requires Inv-loop μ-loop
 flip-requires c κs = record { may = c .before .before .before .before .before .before .before .before .before .before .before .before .before .before .before .before .before .before .before .before .before .before .args .may .now; can = work-flip (c .before .before .before .before .before .before .before .before .before .before .before .before .before .before .before .before .before .before .before .before .before .before .pre .0) (c .before .before .before .before .before .before .before .before .before .before .before .before .before .before .before .before .before .before .before .before .before .before .pre .1) (c .before .before .before .before .before .before .before .before .before .before .before .before .before .loop .inv) (c .before .before .before .before .before .before .search .kept .1 .1 .1 .0) (c .before .before .before .before .before .before .search .ensures) (c .before .before .before .if3 .left) }
 
--- src/all.rt:35:9
 without-requires-3 : tie.Need-without-requires-3 Inv-loop μ-loop
 without-requires-3 c κs = omega (arith, c .before .before .before .before .before .before .before .before .before .before .before .before .before .before .before .before .before .before .before .before .before .before .before .before .before .before .before .pre .0 .rooms .nodes)
 
--- src/all.rt:36:9
 without-requires-4 : tie.Need-without-requires-4 Inv-loop μ-loop
 without-requires-4 c κs = omega (arith, c .before .before .before .before .before .before .before .before .before .before .before .before .before .before .before .before .before .before .before .before .before .before .before .before .before .before .before .before .pre .0 .rooms .nodes, c .before .before .before .before .before .flip .ensures .flipped _ (work-flip (c .before .before .before .before .before .before .before .before .before .before .before .before .before .before .before .before .before .before .before .before .before .before .before .before .before .before .before .before .pre .0) (c .before .before .before .before .before .before .before .before .before .before .before .before .before .before .before .before .before .before .before .before .before .before .before .before .before .before .before .before .pre .1) (c .before .before .before .before .before .before .before .before .before .before .before .before .before .before .before .before .before .before .before .loop .inv) (c .before .before .before .before .before .before .before .before .before .before .before .before .search .kept .1 .1 .1 .0) (c .before .before .before .before .before .before .before .before .before .before .before .before .search .ensures) (c .before .before .before .before .before .before .before .before .before .if3 .left)) .destination-new .within)
 
--- src/all.rt:17:5
 loop-less-2 : tie.Need-loop-less-2 Inv-loop μ-loop
 loop-less-2 c = fewer-falls (c .before .before .before .before .before .before .before .before .before .before .before .before .before .before .before .before .before .before .before .before .loop .inv .free-destinations) (c .before .before .before .before .before .before .flip .ensures .flipped _ (work-flip (c .before .before .before .before .before .before .before .before .before .before .before .before .before .before .before .before .before .before .before .before .before .before .before .before .before .before .before .before .before .pre .0) (c .before .before .before .before .before .before .before .before .before .before .before .before .before .before .before .before .before .before .before .before .before .before .before .before .before .before .before .before .before .pre .1) (c .before .before .before .before .before .before .before .before .before .before .before .before .before .before .before .before .before .before .before .before .loop .inv) (c .before .before .before .before .before .before .before .before .before .before .before .before .before .search .kept .1 .1 .1 .0) (c .before .before .before .before .before .before .before .before .before .before .before .before .before .search .ensures) (c .before .before .before .before .before .before .before .before .before .before .if3 .left)) .destination-new) (c .without4 .ensures)
 
--- src/all.rt:17:5
 loop-again-2 : tie.Need-loop-again-2 Inv-loop μ-loop
 loop-again-2 c = work-flipped (c .before .before .before .before .before .before .before .before .before .before .before .before .before .before .before .before .before .before .before .before .before .before .before .before .before .before .before .before .before .pre .0) (c .before .before .before .before .before .before .before .before .before .before .before .before .before .before .before .before .before .before .before .before .before .before .before .before .before .before .before .before .before .pre .1) (c .before .before .before .before .before .before .before .before .before .before .before .before .before .before .before .before .before .before .before .before .loop .inv) (c .before .before .before .before .before .before .flip .kept .1 .0) (c .before .before .before .before .before .before .flip .kept .1 .1 .0) (c .before .before .before .before .before .before .before .before .before .before .before .before .before .search .kept .1 .1 .1 .0) (c .before .before .before .before .before .before .flip .ensures .flipped _ (work-flip (c .before .before .before .before .before .before .before .before .before .before .before .before .before .before .before .before .before .before .before .before .before .before .before .before .before .before .before .before .before .pre .0) (c .before .before .before .before .before .before .before .before .before .before .before .before .before .before .before .before .before .before .before .before .before .before .before .before .before .before .before .before .before .pre .1) (c .before .before .before .before .before .before .before .before .before .before .before .before .before .before .before .before .before .before .before .before .loop .inv) (c .before .before .before .before .before .before .before .before .before .before .before .before .before .search .kept .1 .1 .1 .0) (c .before .before .before .before .before .before .before .before .before .before .before .before .before .search .ensures) (c .before .before .before .before .before .before .before .before .before .before .if3 .left))) (c .before .without3 .ensures) (c .without4 .ensures)
 

@@ -1,17 +1,13 @@
+-- `pairs::search::ready` meets its contract: the destinations that have left the set may hear none of the sources. Assumes nothing.
+use Prim.Native.Nat.{ℕ, _<_}
+use native.Mathlib.Omega.{arith}
+use mathlib.Core.Path.{_≡_}
+use borrow.Author.Needs.{needs}
+use Rattle.nodes.specs.Sets.{member, size}
 use Rattle.pairs.proofs.Scans.{Passing, pass-start, pass-end, pass-among, pass-step, pass-falls, choice-hears}
 use Rattle.pairs.specs.Pairs.{allowed}
-use Rattle.nodes.specs.Sets.{member, size}
-use mathlib.Core.Path.{_≡_}
-use Prim.Native.Nat.{ℕ, _<_}
-use borrow.Author.Needs.{needs}
-use native.Mathlib.Omega.{arith}
 use Rattle.pairs.proofs.search.ready.Statement.{statement}
 use Rattle.pairs.proofs.search.ready.Tie as tie
-use Rattle.pairs.proofs.search.ready.Reads as reads
-use Rattle.pairs.proofs.search.ready.Lts as lts
-use Rattle.nodes.proofs.first.Reads as first-reads
-use Rattle.nodes.proofs.without.Reads as without-reads
-use Rattle.pairs.proofs.search.choice.Reads as choice-reads
 
 abbrev Inv-loop : tie.InvT-loop
 Inv-loop n may sources destinations left₀ left = Passing n (λ j. (i : ℕ) → i < n → member i sources ≡ 1 → allowed may i j ≡ 1 → ⊥) destinations left
@@ -19,35 +15,27 @@ Inv-loop n may sources destinations left₀ left = Passing n (λ j. (i : ℕ) �
 abbrev μ-loop : tie.MeasureT-loop
 μ-loop n may sources destinations left₀ left = size n left
 
--- src/search.rt:40:5
 loop-holds : tie.Need-loop-holds Inv-loop μ-loop
 loop-holds c = pass-start _ _ _
 
--- src/search.rt:41:13
 first-requires : tie.Need-first-requires Inv-loop μ-loop
 first-requires c κs = search needs
 
--- src/search.rt:43:13
 returns : tie.Need-returns Inv-loop μ-loop
 returns c = record { within = omega arith; among = λ lt. absurd (omega arith); hears = λ lt. absurd (omega arith); none = λ le. pass-end (c .before .before .loop .inv) (c .before .first .ensures) (c .before .before .before .before .pre .0) (c .if1 .taken) }
 
--- src/search.rt:45:12
 choice-requires : tie.Need-choice-requires Inv-loop μ-loop
 choice-requires c κs = omega arith
 
--- src/search.rt:46:13
 returns-2 : tie.Need-returns-2 Inv-loop μ-loop
 returns-2 c = record { within = omega arith; among = λ lt. pass-among (c .before .before .before .before .loop .inv) (c .before .before .before .first .ensures) (c .before .before .before .before .before .before .pre .0) (c .before .before .if1 .left); hears = λ lt. choice-hears (c .before .choice .ensures) (c .if2 .taken); none = λ le. absurd (omega arith) }
 
--- src/search.rt:48:9
 without-requires : tie.Need-without-requires Inv-loop μ-loop
 without-requires c κs = omega arith
 
--- src/search.rt:40:5
 loop-less : tie.Need-loop-less Inv-loop μ-loop
 loop-less c = pass-falls (c .before .before .before .before .before .loop .inv) (c .before .before .before .before .first .ensures) (c .before .before .before .before .before .before .before .pre .0) (c .before .before .before .if1 .left) _ (c .without .ensures)
 
--- src/search.rt:40:5
 loop-again : tie.Need-loop-again Inv-loop μ-loop
 loop-again c = pass-step (c .before .before .before .before .before .loop .inv) (c .before .before .before .before .first .ensures) (c .before .before .before .before .before .before .before .pre .0) (c .before .before .before .if1 .left) _ (c .without .ensures) (c .before .before .choice .ensures .none (c .before .if2 .left))
 

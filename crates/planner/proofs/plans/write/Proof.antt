@@ -5,7 +5,7 @@ use mathlib.Core.Path.{refl, ap₂}
 use borrow.Author.Needs.{needs}
 use Rattle.star.specs.Lines.{total}
 use Rattle.planner.proofs.PlanLaws.{keep-room, fits-frame, total-below, written-plan}
-use Rattle.fair.proofs.Rounds.{demands-below}
+use Rattle.star.proofs.LineLaws.{demands-below}
 use Rattle.planner.proofs.plans.write.Statement.{statement}
 use Rattle.planner.proofs.plans.write.Tie as tie
 

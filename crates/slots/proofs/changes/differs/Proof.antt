@@ -1,12 +1,10 @@
-use Rattle.slots.proofs.ChangeLaws.{Same, same-more, differ-at, differ-none}
-use mathlib.Core.Path.{_∙_, sym}
+-- `slots::changes::differs` meets its contract: the destinations passed hear the same in both slots. Assumes nothing.
 use Prim.Native.Nat.{_-_}
 use native.Mathlib.Omega.{arith}
+use mathlib.Core.Path.{_∙_, sym}
+use Rattle.slots.proofs.ChangeLaws.{Same, same-more, differ-at, differ-none}
 use Rattle.slots.proofs.changes.differs.Statement.{statement}
 use Rattle.slots.proofs.changes.differs.Tie as tie
-use Rattle.slots.proofs.changes.differs.Reads as reads
-use Rattle.slots.proofs.changes.differs.Lts as lts
-use Rattle.arrays.proofs.frames.heard.Reads as heard-reads
 
 abbrev Inv-loop : tie.InvT-loop
 Inv-loop n one k other m j₀ j = Same n one k other m j
@@ -14,35 +12,27 @@ Inv-loop n one k other m j₀ j = Same n one k other m j
 abbrev μ-loop : tie.MeasureT-loop
 μ-loop n one k other m j₀ j = n - j
 
--- src/changes.rt:15:5
 loop-holds : tie.Need-loop-holds Inv-loop μ-loop
 loop-holds c = record { upto = omega arith; all = λ u lt. absurd (omega arith) }
 
--- src/changes.rt:16:12
 heard-requires : tie.Need-heard-requires Inv-loop μ-loop
 heard-requires c κs = (c .before .before .before .before .pre .1, c .loop-test .taken)
 
--- src/changes.rt:16:43
 heard-requires-2 : tie.Need-heard-requires-2 Inv-loop μ-loop
 heard-requires-2 c κs = (c .before .before .before .before .before .pre .2, c .before .loop-test .taken)
 
--- src/changes.rt:17:13
 returns : tie.Need-returns Inv-loop μ-loop
 returns c = differ-at _ _ _ _ _ _ (c .before .before .before .loop-test .taken) (λ e. c .if1 .taken (c .before .before .heard .ensures ∙ e ∙ sym (c .before .heard2 .ensures)))
 
--- src/changes.rt:19:9
 add-j : tie.Need-add-j Inv-loop μ-loop
 add-j c = omega (arith, c .before .before .before .before .before .before .before .pre .0)
 
--- src/changes.rt:15:5
 loop-less : tie.Need-loop-less Inv-loop μ-loop
 loop-less c = omega arith
 
--- src/changes.rt:15:5
 loop-again : tie.Need-loop-again Inv-loop μ-loop
 loop-again c = same-more (c .before .before .before .before .loop .inv) (c .before .before .before .loop-test .taken) (sym (c .before .before .heard .ensures) ∙ c .if1 .left ∙ c .before .heard2 .ensures)
 
--- src/changes.rt:10:1
 returns-2 : tie.Need-returns-2 Inv-loop μ-loop
 returns-2 c = differ-none (c .before .loop .inv) (c .loop-test .left)
 

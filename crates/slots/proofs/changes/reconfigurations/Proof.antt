@@ -1,15 +1,12 @@
-use mathlib.Core.Path.{_∙_}
-use Rattle.slots.proofs.ChangeLaws.{Counting, count-start, count-step, count-end}
-use Rattle.arrays.proofs.Stores.{frame-slot}
-use mathlib.Core.Bool.{true, false}
-use mathlib.Core.Path.{refl, sym}
+-- `slots::changes::reconfigurations` meets its contract: the count is the definition's sum over the slots passed. Assumes nothing.
 use Prim.Native.Nat.{_-_}
 use native.Mathlib.Omega.{arith}
+use mathlib.Core.Path.{_∙_, refl, sym}
+use mathlib.Core.Bool.{true, false}
+use Rattle.arrays.proofs.Stores.{frame-slot}
+use Rattle.slots.proofs.ChangeLaws.{Counting, count-start, count-step, count-end}
 use Rattle.slots.proofs.changes.reconfigurations.Statement.{statement}
 use Rattle.slots.proofs.changes.reconfigurations.Tie as tie
-use Rattle.slots.proofs.changes.reconfigurations.Reads as reads
-use Rattle.slots.proofs.changes.reconfigurations.Lts as lts
-use Rattle.slots.proofs.changes.differs.Reads as differs-reads
 
 abbrev Inv-loop : tie.InvT-loop
 Inv-loop nodes slots schedule count₀ k₀ count k = Counting nodes slots schedule count k
@@ -17,51 +14,39 @@ Inv-loop nodes slots schedule count₀ k₀ count k = Counting nodes slots sched
 abbrev μ-loop : tie.MeasureT-loop
 μ-loop nodes slots schedule count₀ k₀ count k = slots - k
 
--- src/changes.rt:31:5
 loop-holds : tie.Need-loop-holds Inv-loop μ-loop
 loop-holds c = count-start _ _ _
 
--- src/changes.rt:31:11
 add-loop : tie.Need-add-loop Inv-loop μ-loop
 add-loop c = omega (arith, c .loop .inv .upto, c .before .before .pre .slots)
 
--- src/changes.rt:32:50
 add-differs : tie.Need-add-differs Inv-loop μ-loop
 add-differs c = omega (arith, c .before .before .before .pre .slots)
 
--- src/changes.rt:32:12
 differs-requires : tie.Need-differs-requires Inv-loop μ-loop
 differs-requires c κs = (c .before .before .before .pre .nodes, frame-slot (c .before .before .before .pre) (omega arith), frame-slot (c .before .before .before .pre) (c .loop-test .taken))
 
--- src/changes.rt:33:13
 add-count : tie.Need-add-count Inv-loop μ-loop
 add-count c = omega (arith, c .before .before .before .loop .inv .small, c .before .before .before .before .before .pre .slots)
 
--- src/changes.rt:34:13
 add-k : tie.Need-add-k Inv-loop μ-loop
 add-k c = omega (arith, c .before .before .before .before .before .pre .slots)
 
--- src/changes.rt:31:5
 loop-less : tie.Need-loop-less Inv-loop μ-loop
 loop-less c = omega arith
 
--- src/changes.rt:31:5
 loop-again : tie.Need-loop-again Inv-loop μ-loop
 loop-again c = count-step true (c .before .before .before .loop .inv) (c .before .before .loop-test .taken) (sym (c .if1 .taken) ∙ c .before .differs .ensures) refl
 
--- src/changes.rt:37:9
 add-k-2 : tie.Need-add-k-2 Inv-loop μ-loop
 add-k-2 c = omega (arith, c .before .before .before .before .before .pre .slots)
 
--- src/changes.rt:31:5
 loop-less-2 : tie.Need-loop-less-2 Inv-loop μ-loop
 loop-less-2 c = omega arith
 
--- src/changes.rt:31:5
 loop-again-2 : tie.Need-loop-again-2 Inv-loop μ-loop
 loop-again-2 c = count-step false (c .before .before .before .loop .inv) (c .before .before .loop-test .taken) (sym (c .if1 .left) ∙ c .before .differs .ensures) (omega arith)
 
--- src/changes.rt:25:1
 returns : tie.Need-returns Inv-loop μ-loop
 returns c = count-end (c .before .loop .inv) (c .loop-test .left)
 

@@ -1,13 +1,10 @@
-use Rattle.slots.proofs.LevelLaws.{Leveling, level-step}
-use mathlib.Core.Path.{refl}
+-- `slots::levels::allow` meets its contract: the sets of the destinations passed are right. Assumes nothing.
 use Prim.Native.Nat.{_-_}
 use native.Mathlib.Omega.{arith}
+use mathlib.Core.Path.{refl}
+use Rattle.slots.proofs.LevelLaws.{Leveling, level-step}
 use Rattle.slots.proofs.levels.allow.Statement.{statement}
 use Rattle.slots.proofs.levels.allow.Tie as tie
-use Rattle.slots.proofs.levels.allow.Reads as reads
-use Rattle.slots.proofs.levels.allow.Lts as lts
-use Rattle.arrays.proofs.lists.put_set.Reads as put-set-reads
-use Rattle.slots.proofs.levels.heard_at.Reads as heard-at-reads
 
 abbrev Inv-loop : tie.InvT-loop
 Inv-loop n padded level may₀ j₀ may j = Leveling n padded level may₀ may j
@@ -15,35 +12,27 @@ Inv-loop n padded level may₀ j₀ may j = Leveling n padded level may₀ may j
 abbrev μ-loop : tie.MeasureT-loop
 μ-loop n padded level may₀ j₀ may j = n - j
 
--- src/levels.rt:81:5
 loop-holds : tie.Need-loop-holds Inv-loop μ-loop
 loop-holds c = record { upto = omega arith; len = refl; all = λ u lt. absurd (omega arith) }
 
--- src/levels.rt:82:32
 heard-at-requires : tie.Need-heard-at-requires Inv-loop μ-loop
 heard-at-requires c κs = (c .before .before .before .before .before .pre .0, c .before .loop-test .taken)
 
--- src/levels.rt:82:9
 put-set-requires : tie.Need-put-set-requires Inv-loop μ-loop
 put-set-requires c κs = omega (arith, c .before .before .before .before .before .before .pre .1, c .before .before .before .loop .inv .len)
 
--- src/levels.rt:83:9
 add-j : tie.Need-add-j Inv-loop μ-loop
 add-j c = omega (arith, c .before .before .before .before .before .before .before .before .before .pre .0 .nodes)
 
--- src/levels.rt:81:5
 loop-less : tie.Need-loop-less Inv-loop μ-loop
 loop-less c = omega arith
 
--- src/levels.rt:81:5
 loop-again : tie.Need-loop-again Inv-loop μ-loop
 loop-again c = rw (c .before .before .put-set .ensures) (level-step (c .before .before .before .before .before .before .before .before .before .pre .1) (c .before .before .before .before .before .before .loop .inv) (c .before .before .before .before .before .loop-test .taken) (c .before .before .before .heard-at .ensures))
 
--- src/levels.rt:76:1
 same-length : tie.Need-same-length Inv-loop μ-loop
 same-length c = c .before .loop .inv .len
 
--- src/levels.rt:76:1
 returns : tie.Need-returns Inv-loop μ-loop
 returns c = record { all = λ j hj. c .before .loop .inv .all j (omega arith) }
 

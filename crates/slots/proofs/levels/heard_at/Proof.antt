@@ -1,14 +1,11 @@
-use Rattle.slots.proofs.LevelLaws.{Allowing, allow-start, allow-skip, allow-with}
+-- `slots::levels::heard_at` meets its contract: the set is right for the sources passed. Assumes nothing.
 use Prim.Native.Nat.{_-_}
-use borrow.Author.Needs.{needs}
 use native.Mathlib.Omega.{arith}
+use borrow.Author.Tests.{leb-true, leb-false}
+use borrow.Author.Needs.{needs}
+use Rattle.slots.proofs.LevelLaws.{Allowing, allow-start, allow-step}
 use Rattle.slots.proofs.levels.heard_at.Statement.{statement}
 use Rattle.slots.proofs.levels.heard_at.Tie as tie
-use Rattle.slots.proofs.levels.heard_at.Reads as reads
-use Rattle.slots.proofs.levels.heard_at.Lts as lts
-use Rattle.arrays.proofs.tables.get.Reads as get-reads
-use Rattle.nodes.proofs.none.Reads as none-reads
-use Rattle.nodes.proofs.with.Reads as with-reads
 
 abbrev Inv-loop : tie.InvT-loop
 Inv-loop n padded level j s₀ i₀ s i = Allowing n padded level j s i
@@ -16,47 +13,27 @@ Inv-loop n padded level j s₀ i₀ s i = Allowing n padded level j s i
 abbrev μ-loop : tie.MeasureT-loop
 μ-loop n padded level j s₀ i₀ s i = n - i
 
--- src/levels.rt:62:9
 none-requires : tie.Need-none-requires Inv-loop μ-loop
 none-requires c κs = search needs
 
--- src/levels.rt:64:5
 loop-holds : tie.Need-loop-holds Inv-loop μ-loop
 loop-holds c = allow-start _ _ _ _ _ (c .none .ensures)
 
--- src/levels.rt:65:12
 get-requires : tie.Need-get-requires Inv-loop μ-loop
 get-requires c κs = (c .before .before .before .before .pre .0, (c .loop-test .taken, c .before .before .before .before .pre .1))
 
--- src/levels.rt:66:13
+with-where-requires : tie.Need-with-where-requires Inv-loop μ-loop
+with-where-requires c κs = omega (arith, c .before .before .before .before .before .pre .0 .nodes)
+
 add-i : tie.Need-add-i Inv-loop μ-loop
 add-i c = omega (arith, c .before .before .before .before .before .before .pre .0 .nodes)
 
--- src/levels.rt:64:5
 loop-less : tie.Need-loop-less Inv-loop μ-loop
 loop-less c = omega arith
 
--- src/levels.rt:64:5
 loop-again : tie.Need-loop-again Inv-loop μ-loop
-loop-again c = allow-skip (c .before .before .before .loop .inv) (c .before .before .loop-test .taken) (omega (arith, c .before .get .ensures .0))
+loop-again c = allow-step (c .before .before .before .loop .inv) (c .before .before .loop-test .taken) _ _ (λ e. omega (arith, c .before .get .ensures .0, leb-true (c .before .before .before .before .before .before .args .level) (c .before .get .result) e)) (λ e. omega (arith, c .before .get .ensures .0, leb-false (c .before .before .before .before .before .before .args .level) (c .before .get .result) e)) (c .with-where .ensures)
 
--- src/levels.rt:69:9
-with-requires : tie.Need-with-requires Inv-loop μ-loop
-with-requires c κs = omega (arith, c .before .before .before .before .before .before .pre .0 .nodes)
-
--- src/levels.rt:70:9
-add-i-2 : tie.Need-add-i-2 Inv-loop μ-loop
-add-i-2 c = omega (arith, c .before .before .before .before .before .before .before .pre .0 .nodes)
-
--- src/levels.rt:64:5
-loop-less-2 : tie.Need-loop-less-2 Inv-loop μ-loop
-loop-less-2 c = omega arith
-
--- src/levels.rt:64:5
-loop-again-2 : tie.Need-loop-again-2 Inv-loop μ-loop
-loop-again-2 c = allow-with (c .before .before .before .before .loop .inv) (c .before .before .before .loop-test .taken) _ (omega (arith, c .before .before .get .ensures .0)) (c .with .ensures)
-
--- src/levels.rt:58:1
 returns : tie.Need-returns Inv-loop μ-loop
 returns c = record { in' = λ i hi. c .before .loop .inv .in' i (omega arith); out = λ i hi. c .before .loop .inv .out i }
 
@@ -69,11 +46,8 @@ heard-at-spec =
     none-requires
     loop-holds
     get-requires
+    with-where-requires
     add-i
     loop-less
     loop-again
-    with-requires
-    add-i-2
-    loop-less-2
-    loop-again-2
     returns)

@@ -1,16 +1,9 @@
-use Rattle.slots.proofs.LevelLaws.{Renewing, renew-start, renew-in, renew-skip, renew-put, renew-end}
+-- `slots::levels::renew` meets its contract: the sets of the destinations passed are right, and what is paired stays paired at both ends. Assumes nothing.
 use Prim.Native.Nat.{_-_}
 use native.Mathlib.Omega.{arith}
+use Rattle.slots.proofs.LevelLaws.{Renewing, renew-start, renew-in, renew-skip, renew-put, renew-end}
 use Rattle.slots.proofs.levels.renew.Statement.{statement}
 use Rattle.slots.proofs.levels.renew.Tie as tie
-use Rattle.slots.proofs.levels.renew.Reads as reads
-use Rattle.slots.proofs.levels.renew.Lts as lts
-use Rattle.arrays.proofs.lists.byte.Reads as byte-reads
-use Rattle.arrays.proofs.lists.put_byte.Reads as put-byte-reads
-use Rattle.arrays.proofs.lists.put_set.Reads as put-set-reads
-use Rattle.arrays.proofs.lists.set_at.Reads as set-at-reads
-use Rattle.arrays.proofs.tables.get.Reads as get-reads
-use Rattle.nodes.proofs.without.Reads as without-reads
 
 abbrev Inv-loop : tie.InvT-loop
 Inv-loop n padded level may₀ source₀ destination₀ j₀ may source destination j = Renewing n padded level may₀ source₀ destination₀ may source destination j
@@ -18,75 +11,57 @@ Inv-loop n padded level may₀ source₀ destination₀ j₀ may source destinat
 abbrev μ-loop : tie.MeasureT-loop
 μ-loop n padded level may₀ source₀ destination₀ j₀ may source destination j = n - j
 
--- src/levels.rt:93:5
 loop-holds : tie.Need-loop-holds Inv-loop μ-loop
 loop-holds c = renew-start (c .before .before .before .before .pre)
 
--- src/levels.rt:94:13
 byte-requires : tie.Need-byte-requires Inv-loop μ-loop
 byte-requires c κs = omega (arith, c .before .before .before .before .before .before .before .pre .rooms .sources, c .before .before .loop .inv .source-len)
 
--- src/levels.rt:95:12
 get-requires : tie.Need-get-requires Inv-loop μ-loop
 get-requires c κs = (c .before .before .before .before .before .before .before .before .pre .table, (renew-in (c .before .before .before .before .before .before .before .before .pre) (c .before .before .before .loop .inv) (c .before .before .loop-test .taken) (c .byte .ensures .0), c .before .before .loop-test .taken))
 
--- src/levels.rt:96:13
 add-j : tie.Need-add-j Inv-loop μ-loop
 add-j c = omega (arith, c .before .before .before .before .before .before .before .before .before .before .pre .rooms .nodes)
 
--- src/levels.rt:93:5
 loop-less : tie.Need-loop-less Inv-loop μ-loop
 loop-less c = omega arith
 
--- src/levels.rt:93:5
 loop-again : tie.Need-loop-again Inv-loop μ-loop
 loop-again c = renew-skip (c .before .before .before .before .before .before .before .before .before .before .pre) (c .before .before .before .before .before .loop .inv) (c .before .before .before .before .loop-test .taken) (c .before .before .byte .ensures .0) (omega (arith, c .before .get .ensures .0))
 
--- src/levels.rt:99:13
 set-at-requires : tie.Need-set-at-requires Inv-loop μ-loop
 set-at-requires c κs = omega (arith, c .before .before .before .before .before .before .before .before .before .before .before .pre .rooms .mays, c .before .before .before .before .before .before .loop .inv .may-len)
 
--- src/levels.rt:100:32
 without-requires : tie.Need-without-requires Inv-loop μ-loop
 without-requires c κs = omega (arith, c .before .before .before .before .before .before .before .before .before .before .before .before .before .pre .rooms .nodes, renew-in (c .before .before .before .before .before .before .before .before .before .before .before .before .before .pre) (c .before .before .before .before .before .before .before .before .loop .inv) (c .before .before .before .before .before .before .before .loop-test .taken) (c .before .before .before .before .before .byte .ensures .0))
 
--- src/levels.rt:100:9
 put-set-requires : tie.Need-put-set-requires Inv-loop μ-loop
 put-set-requires c κs = omega (arith, c .before .before .before .before .before .before .before .before .before .before .before .before .before .before .pre .rooms .mays, c .before .before .before .before .before .before .before .before .before .loop .inv .may-len)
 
--- src/levels.rt:101:9
 put-byte-requires : tie.Need-put-byte-requires Inv-loop μ-loop
 put-byte-requires c κs = (omega (arith, c .before .before .before .before .before .before .before .before .before .before .before .before .before .before .before .before .before .before .pre .rooms .sources, c .before .before .before .before .before .before .before .before .before .before .before .before .before .loop .inv .source-len), omega (arith, c .before .before .before .before .before .before .before .before .before .before .before .before .before .before .before .before .before .before .pre .rooms .nodes))
 
--- src/levels.rt:102:9
 put-byte-requires-2 : tie.Need-put-byte-requires-2 Inv-loop μ-loop
 put-byte-requires-2 c κs = (omega (arith, c .before .before .before .before .before .before .before .before .before .before .before .before .before .before .before .before .before .before .before .before .before .before .pre .rooms .destinations, c .before .before .before .before .before .before .before .before .before .before .before .before .before .before .before .before .before .loop .inv .destination-len, renew-in (c .before .before .before .before .before .before .before .before .before .before .before .before .before .before .before .before .before .before .before .before .before .before .pre) (c .before .before .before .before .before .before .before .before .before .before .before .before .before .before .before .before .before .loop .inv) (c .before .before .before .before .before .before .before .before .before .before .before .before .before .before .before .before .loop-test .taken) (c .before .before .before .before .before .before .before .before .before .before .before .before .before .before .byte .ensures .0)), omega (arith, c .before .before .before .before .before .before .before .before .before .before .before .before .before .before .before .before .before .before .before .before .before .before .pre .rooms .nodes))
 
--- src/levels.rt:103:9
 add-j-2 : tie.Need-add-j-2 Inv-loop μ-loop
 add-j-2 c = omega (arith, c .before .before .before .before .before .before .before .before .before .before .before .before .before .before .before .before .before .before .before .before .before .before .before .before .before .pre .rooms .nodes)
 
--- src/levels.rt:93:5
 loop-less-2 : tie.Need-loop-less-2 Inv-loop μ-loop
 loop-less-2 c = omega arith
 
--- src/levels.rt:93:5
 loop-again-2 : tie.Need-loop-again-2 Inv-loop μ-loop
 loop-again-2 c = rw (c .before .before .before .before .before .before .before .before .before .before .put-set .ensures, c .before .before .before .before .before .before .put-byte .ensures, c .before .before .put-byte2 .ensures) (renew-put (c .before .before .before .before .before .before .before .before .before .before .before .before .before .before .before .before .before .before .before .before .before .before .before .before .before .pre) (c .before .before .before .before .before .before .before .before .before .before .before .before .before .before .before .before .before .before .before .before .loop .inv) (c .before .before .before .before .before .before .before .before .before .before .before .before .before .before .before .before .before .before .before .loop-test .taken) (c .before .before .before .before .before .before .before .before .before .before .before .before .before .before .before .before .before .byte .ensures .0) (omega (arith, c .before .before .before .before .before .before .before .before .before .before .before .before .before .before .before .before .get .ensures .0)) (c .before .before .before .before .before .before .before .before .before .before .before .before .before .set-at .ensures) (c .before .before .before .before .before .before .before .before .before .before .before .without .ensures))
 
--- src/levels.rt:88:1
 same-length : tie.Need-same-length Inv-loop μ-loop
 same-length c = c .before .loop .inv .may-len
 
--- src/levels.rt:88:1
 same-length-2 : tie.Need-same-length-2 Inv-loop μ-loop
 same-length-2 c = c .before .loop .inv .source-len
 
--- src/levels.rt:88:1
 same-length-3 : tie.Need-same-length-3 Inv-loop μ-loop
 same-length-3 c = c .before .loop .inv .destination-len
 
--- src/levels.rt:88:1
 returns : tie.Need-returns Inv-loop μ-loop
 returns c = renew-end (c .before .loop .inv) (c .loop-test .left)
 

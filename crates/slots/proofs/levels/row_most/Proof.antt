@@ -1,10 +1,8 @@
+-- `slots::levels::row_most` meets its contract: a 16-bit number is below 65,536. Assumes nothing.
 use Prim.Native.Nat.{_≤_, _<_, _-_}
 use native.Mathlib.Omega.{arith}
 use Rattle.slots.proofs.levels.row_most.Statement.{statement}
 use Rattle.slots.proofs.levels.row_most.Tie as tie
-use Rattle.slots.proofs.levels.row_most.Reads as reads
-use Rattle.slots.proofs.levels.row_most.Lts as lts
-use Rattle.arrays.proofs.tables.get.Reads as get-reads
 
 abbrev Inv-loop : tie.InvT-loop
 Inv-loop n padded i most₀ j₀ most j = (j ≤ n) × (most < 65536)
@@ -12,35 +10,27 @@ Inv-loop n padded i most₀ j₀ most j = (j ≤ n) × (most < 65536)
 abbrev μ-loop : tie.MeasureT-loop
 μ-loop n padded i most₀ j₀ most j = n - j
 
--- src/levels.rt:25:5
 loop-holds : tie.Need-loop-holds Inv-loop μ-loop
 loop-holds c = omega arith
 
--- src/levels.rt:26:13
 get-requires : tie.Need-get-requires Inv-loop μ-loop
 get-requires c κs = (c .before .before .before .pre .0, (c .before .before .before .pre .1, c .loop-test .taken))
 
--- src/levels.rt:27:9
 add-j : tie.Need-add-j Inv-loop μ-loop
 add-j c = omega (arith, c .before .before .before .before .pre .0 .nodes)
 
--- src/levels.rt:25:5
 loop-less : tie.Need-loop-less Inv-loop μ-loop
 loop-less c = omega arith
 
--- src/levels.rt:25:5
 loop-again : tie.Need-loop-again Inv-loop μ-loop
 loop-again c = omega arith
 
--- src/levels.rt:25:5
 loop-less-2 : tie.Need-loop-less-2 Inv-loop μ-loop
 loop-less-2 c = omega arith
 
--- src/levels.rt:25:5
 loop-again-2 : tie.Need-loop-again-2 Inv-loop μ-loop
 loop-again-2 c = omega (arith, c .before .get .ensures .1)
 
--- src/levels.rt:19:1
 returns : tie.Need-returns Inv-loop μ-loop
 returns c = omega arith
 

@@ -1,29 +1,22 @@
-use Rattle.sums.proofs.Tables.{mul-small}
+-- `slots::placing::place` meets its contract: the tables have a cell for each pair of 64 nodes. Assumes nothing.
 use native.Mathlib.Omega.{arith}
 use borrow.Author.Needs.{needs}
+use Rattle.sums.proofs.Tables.{mul-small}
 use Rattle.slots.proofs.placing.place.Statement.{statement}
 use Rattle.slots.proofs.placing.place.Tie as tie
-use Rattle.slots.proofs.placing.place.Reads as reads
-use Rattle.slots.proofs.placing.place.Lts as lts
-use Rattle.slots.proofs.placing.place_with.Reads as place-with-reads
 
--- src/placing.rt:28:36
 slice-aggregate-place-with : tie.Need-slice-aggregate-place-with
 slice-aggregate-place-with c = search needs
 
--- src/placing.rt:28:49
 slice-aggregate-place-with-2 : tie.Need-slice-aggregate-place-with-2
 slice-aggregate-place-with-2 c = search needs
 
--- src/placing.rt:28:5
 place-with-requires : tie.Need-place-with-requires
 place-with-requires c κs = (c .before .before .before .before .before .pre, (record { nodes = c .before .before .before .before .before .pre .square .nodes; cells = omega (arith, mul-small (c .before .before .before .before .before .args .nodes) (c .before .before .before .before .before .args .nodes) (c .before .before .before .before .before .pre .square .nodes) (c .before .before .before .before .before .pre .square .nodes)) }, record { nodes = c .before .before .before .before .before .pre .square .nodes; cells = omega (arith, mul-small (c .before .before .before .before .before .args .nodes) (c .before .before .before .before .before .args .nodes) (c .before .before .before .before .before .pre .square .nodes) (c .before .before .before .before .before .pre .square .nodes)) }))
 
--- src/placing.rt:22:1
 same-length : tie.Need-same-length
 same-length c = search needs
 
--- src/placing.rt:22:1
 returns : tie.Need-returns
 returns c = search needs
 

@@ -1,54 +1,39 @@
-use Rattle.slots.proofs.RoundLaws.{place-small, place-most, place-none, place-end}
-use Rattle.arrays.proofs.Stores.{square-kept, frame-kept, frame-less}
-use lib.ListN.{getD-replicate}
+-- `slots::placing::place_with` meets its contract: the steps one after the other: nothing is placed, all is placed, and the slots after it are idle. Assumes nothing.
 use native.Mathlib.Omega.{arith}
+use lib.ListN.{getD-replicate}
 use borrow.Author.Needs.{needs}
+use Rattle.arrays.proofs.Stores.{square-kept, frame-kept, frame-less}
+use Rattle.slots.proofs.RoundLaws.{place-small, place-most, place-none, place-end}
 use Rattle.slots.proofs.placing.place_with.Statement.{statement}
 use Rattle.slots.proofs.placing.place_with.Tie as tie
-use Rattle.slots.proofs.placing.place_with.Reads as reads
-use Rattle.slots.proofs.placing.place_with.Lts as lts
-use Rattle.holds.proofs.writing.write.Reads as write-reads
-use Rattle.idle.proofs.copy.Reads as copy-reads
-use Rattle.idle.proofs.pad.Reads as pad-reads
-use Rattle.slots.proofs.rounds.settle.Reads as settle-reads
 
--- src/placing.rt:14:5
 copy-requires : tie.Need-copy-requires
 copy-requires c κs = (c .before .before .before .before .before .pre .0 .square, c .before .before .before .before .before .pre .1 .1, place-small (c .before .before .before .before .before .pre .0))
 
--- src/placing.rt:15:13
 pad-requires : tie.Need-pad-requires
 pad-requires c κs = record { square = c .before .before .before .before .before .before .before .before .before .pre .0 .square; small = place-small (c .before .before .before .before .before .before .before .before .before .pre .0); table = c .before .before .before .before .before .before .before .before .before .pre .1 .0 }
 
--- src/placing.rt:15:13
 cast-r : tie.Need-cast-r
 cast-r c = search needs
 
--- src/placing.rt:16:5
 settle-requires : tie.Need-settle-requires
 settle-requires c κs = record { table = square-kept (c .before .before .before .before .before .before .before .before .before .before .before .before .before .before .before .args .padded .now) _ (c .before .before .before .before .before .pad .kept .1 .1 .0) (c .before .before .before .before .before .before .before .before .before .before .before .before .before .before .before .pre .1 .0); table-due = square-kept (c .before .before .before .before .before .before .before .before .before .before .before .before .before .before .before .args .due .now) _ (c .before .before .before .before .before .before .before .before .before .copy .kept .1 .1 .0) (c .before .before .before .before .before .before .before .before .before .before .before .before .before .before .before .pre .1 .1); frame = frame-less (c .before .before .before .before .before .before .before .before .before .before .before .before .before .before .before .pre .0 .frame) (place-most (c .before .before .before .before .before .before .before .before .before .before .before .before .before .before .before .pre .0) (c .before .before .before .before .before .pad .ensures) (c .before .before .before .before .before .before .before .before .before .copy .ensures)); kept = c .before .before .before .before .before .before .before .before .before .before .before .before .before .before .before .args .kept .now; placed = place-none (c .before .before .before .before .before .before .before .before .before .before .before .before .before .before .before .pre .0) (c .before .before .before .before .before .pad .ensures) (c .before .before .before .before .before .before .before .before .before .copy .ensures) }
 
--- src/placing.rt:17:40
 slice-aggregate-write : tie.Need-slice-aggregate-write
 slice-aggregate-write c = search needs
 
--- src/placing.rt:17:5
 write-requires : tie.Need-write-requires
 write-requires c κs = (frame-kept (c .before .before .before .before .before .before .before .before .before .before .before .before .before .before .before .before .before .before .before .before .before .before .before .before .args .schedule .now) _ (c .before .before .before .before .before .before .before .before .settle .kept .1 .1 .1 .1 .0) (c .before .before .before .before .before .before .before .before .before .before .before .before .before .before .before .before .before .before .before .before .before .before .before .before .pre .0 .frame), (omega (arith, c .before .before .before .before .before .before .before .before .before .before .before .before .before .before .before .before .before .before .before .before .before .before .before .before .pre .0 .frame .nodes), place-most (c .before .before .before .before .before .before .before .before .before .before .before .before .before .before .before .before .before .before .before .before .before .before .before .before .pre .0) (c .before .before .before .before .before .before .before .before .before .before .before .before .before .before .pad .ensures) (c .before .before .before .before .before .before .before .before .before .before .before .before .before .before .before .before .before .before .copy .ensures)))
 
--- src/placing.rt:8:1
 same-length : tie.Need-same-length
 same-length c = search needs
 
--- src/placing.rt:8:1
 same-length-2 : tie.Need-same-length-2
 same-length-2 c = search needs
 
--- src/placing.rt:8:1
 same-length-3 : tie.Need-same-length-3
 same-length-3 c = search needs
 
--- src/placing.rt:8:1
 returns : tie.Need-returns
 returns c = place-end (c .before .before .before .before .before .before .before .before .before .before .before .before .before .before .before .before .before .before .before .before .before .before .before .before .before .before .before .pre .0) (c .before .before .before .before .before .before .before .before .before .before .before .before .before .before .before .before .before .pad .ensures) (c .before .before .before .before .before .before .before .before .before .before .before .before .before .before .before .before .before .before .before .before .before .copy .ensures) (c .before .before .before .before .before .before .before .before .before .before .before .settle .ensures) (λ j hj. getD-replicate 64 j 255 0 (omega (arith, c .before .before .before .before .before .before .before .before .before .before .before .before .before .before .before .before .before .before .before .before .before .before .before .before .before .before .before .pre .0 .frame .nodes))) (c .before .before .write .ensures)
 

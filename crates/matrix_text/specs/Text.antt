@@ -1,0 +1,70 @@
+-- What is printed, as bytes. Every number is printed without leading zeros and every line ends with a line feed.
+use Prim.Native.Nat.{ℕ, zero, suc, _+_, _/_, _%_}
+use mathlib.Core.Bool.{true, false, cond}
+use mathlib.Core.List.{List, [], _∷_, _++_}
+use lib.Dec.{ltb, eqb}
+use Rattle.sums.specs.Tables.{cell}
+
+-- the decimal digits of n in as many turns as are given, a digit each
+unfoldable pub digitsIn : (turns n : ℕ) → List ℕ
+digitsIn zero n = []
+digitsIn (suc turns) n = elim (ltb n 10) [ true ↦ (48 + n) ∷ [] | false ↦ digitsIn turns (n / 10) ++ ((48 + n % 10) ∷ []) ]
+
+-- a number without leading zeros; 0 is one digit. More than n turns are enough.
+unfoldable pub decimal : ℕ → List ℕ
+decimal n = digitsIn (suc n) n
+
+-- f 0, .., f (m - 1), one after the other
+unfoldable pub joinTo : ℕ → (ℕ → List ℕ) → List ℕ
+joinTo zero f = []
+joinTo (suc m) f = joinTo m f ++ f m
+
+abbrev pub lineFeed : List ℕ
+lineFeed = 10 ∷ []
+
+-- a word and a number
+unfoldable pub named : (word : List ℕ) (n : ℕ) → List ℕ
+named word n = word ++ decimal n
+
+-- "bad input", and a line feed
+abbrev pub badInput : List ℕ
+badInput = 98 ∷ 97 ∷ 100 ∷ 32 ∷ 105 ∷ 110 ∷ 112 ∷ 117 ∷ 116 ∷ 10 ∷ []
+
+-- A refusal prints one line, as `refused 6 3`: the number, the place.
+unfoldable pub refusalText : (number place : ℕ) → List ℕ
+refusalText number place = named (114 ∷ 101 ∷ 102 ∷ 117 ∷ 115 ∷ 101 ∷ 100 ∷ 32 ∷ []) number ++ named (32 ∷ []) place ++ lineFeed
+
+-- Line 1 gives N, L and the rule: `nodes 2 slots 10 rule 1`.
+unfoldable pub headText : (n l rule : ℕ) → List ℕ
+headText n l rule =
+    named (110 ∷ 111 ∷ 100 ∷ 101 ∷ 115 ∷ 32 ∷ []) n
+    ++ named (32 ∷ 115 ∷ 108 ∷ 111 ∷ 116 ∷ 115 ∷ 32 ∷ []) l
+    ++ named (32 ∷ 114 ∷ 117 ∷ 108 ∷ 101 ∷ 32 ∷ []) rule
+    ++ lineFeed
+
+-- Line 2 gives the two totals: `kept 10 refused 2`.
+unfoldable pub totalsText : (kept refused : ℕ) → List ℕ
+totalsText kept refused = named (107 ∷ 101 ∷ 112 ∷ 116 ∷ 32 ∷ []) kept ++ named (32 ∷ 114 ∷ 101 ∷ 102 ∷ 117 ∷ 115 ∷ 101 ∷ 100 ∷ 32 ∷ []) refused ++ lineFeed
+
+-- what follows the number of destination j: a space, or a line feed after the last one
+abbrev pub markAfter : (n j : ℕ) → ℕ
+markAfter n j = cond (eqb (j + 1) n) 10 32
+
+-- One line per source with its kept slots by destination.
+unfoldable pub cellText : (n : ℕ) (kept : List ℕ) (i j : ℕ) → List ℕ
+cellText n kept i j = decimal (cell n kept i j) ++ (markAfter n j ∷ [])
+
+unfoldable pub rowText : (n : ℕ) (kept : List ℕ) (i : ℕ) → List ℕ
+rowText n kept i = joinTo n (cellText n kept i)
+
+unfoldable pub rowsText : (n : ℕ) (kept : List ℕ) → List ℕ
+rowsText n kept = joinTo n (rowText n kept)
+
+-- the plan without the schedule: N, L, the rule, the two totals, and the kept matrix
+unfoldable pub planText : (n l rule keptTotal refusedTotal : ℕ) (kept : List ℕ) → List ℕ
+planText n l rule keptTotal refusedTotal kept = headText n l rule ++ totalsText keptTotal refusedTotal ++ rowsText n kept
+
+-- Room for the longest text of numbers with at most ten digits: 64 lines of 64 numbers, each with the byte after it, under lines of at most 50
+-- and 35 bytes.
+abbrev pub room : ℕ
+room = 45141

@@ -1,0 +1,4 @@
+// The matrix program's work: from the bytes that it reads to the bytes that it writes.
+pub mod answers;
+pub mod input;
+pub mod text;
