@@ -3,6 +3,7 @@
 
 use std::time::Instant;
 
+use second::limits::{FAIR, LEAST};
 use second::matrix::{Matrix, full_capacity};
 use second::{fair, least, schedule};
 
@@ -86,7 +87,7 @@ const fn second(title: &'static str, call: fn(&mut Work)) -> Column {
     Column { title, calls, call }
 }
 
-pub const LIBRARY: [Column; 6] = [
+pub const LIBRARY: [Column; 8] = [
     library("withdraw", |w| {
         let (withdrawn, marks) = (&mut w.withdrawn, &mut w.marks);
         lab::withdraw(w.n, &w.capacity, &w.demand, withdrawn, marks);
@@ -107,7 +108,45 @@ pub const LIBRARY: [Column; 6] = [
     library("count changes", |w| {
         lab::reconfigurations(w.n, w.slots, &w.least_schedule);
     }),
+    library("plan least", |w| {
+        let (kept, schedule) = (&mut w.least, &mut w.least_schedule);
+        plan(
+            w.n,
+            w.slots,
+            LEAST,
+            &w.demand,
+            kept,
+            &mut w.withdrawn,
+            schedule,
+        );
+    }),
+    library("plan fair", |w| {
+        let (kept, schedule) = (&mut w.fair, &mut w.fair_schedule);
+        plan(
+            w.n,
+            w.slots,
+            FAIR,
+            &w.demand,
+            kept,
+            &mut w.withdrawn,
+            schedule,
+        );
+    }),
 ];
+
+/// The whole plan, by the library's entry.
+fn plan(
+    n: usize,
+    slots: usize,
+    rule: u32,
+    demand: &[u32],
+    kept: &mut [u32],
+    withdrawn: &mut [u32],
+    schedule: &mut [u8],
+) {
+    let (nodes, slots) = (n as u32, slots as u32);
+    gyodaebeun::plan(nodes, slots, rule, demand, kept, withdrawn, schedule).expect("accepted");
+}
 
 pub const SECOND: [Column; 5] = [
     second("withdraw", |w| {

@@ -159,7 +159,7 @@ fn missing_slots_go_to_the_first_of_equal_remainders() {
     for n in [3, 5, 64] {
         for slots in 1..40 {
             let across = |cell: usize| if cell < n { 7 } else { 0 };
-            let down = |cell: usize| if cell % n == 0 { 7 } else { 0 };
+            let down = |cell: usize| if cell.is_multiple_of(n) { 7 } else { 0 };
             let kept = |t: usize| {
                 let most = slots.min(7 * n);
                 (most / n + usize::from(t < most % n)) as i64

@@ -120,14 +120,14 @@ fn by_rust(input: &Input, tables: &mut Tables) -> Result<Plan, Refusal> {
 #[track_caller]
 fn compared(input: &Input) -> (Answer, Option<(Written, Totals)>) {
     let Input { nodes, slots, .. } = *input;
-    let mut expected = input.written.clone();
-    let planned = plan::plan(nodes, slots, input.rule, &input.demand, &mut expected);
-    let expected_answer = by_second(planned);
+    let mut written = input.written.clone();
+    let planned = plan::plan(nodes, slots, input.rule, &input.demand, &mut written);
+    let expected = by_second(planned);
 
     let before = Tables::lent(input);
     let mut tables = before.clone();
     let (answer, totals) = by_c(input, &mut tables);
-    assert_eq!(answer, expected_answer, "{input:?}");
+    assert_eq!(answer, expected, "{input:?}");
     let mut again = before.clone();
     let safe = by_rust(input, &mut again);
     assert_eq!(again, tables, "{input:?}");
@@ -306,9 +306,9 @@ fn every_length_of_table() {
     for n in 1..=3 {
         for slots in 1..=3 {
             let good = Input::exact(n, slots, LEAST, &[2; 9]);
-            let lengths = [n * n, n * n, n * n, slots * n].map(|needed| needed as usize);
-            for table in 0..4 {
-                for length in 0..lengths[table] + 3 {
+            let needed = [n * n, n * n, n * n, slots * n];
+            for (table, needed) in needed.map(|cells| cells as usize).into_iter().enumerate() {
+                for length in 0..needed + 3 {
                     let mut input = good.clone();
                     match table {
                         0 => input.demand.resize(length, 65_536),
@@ -316,7 +316,7 @@ fn every_length_of_table() {
                         2 => input.written.withdrawn.resize(length, 9),
                         _ => input.written.schedule.resize(length, 9),
                     }
-                    let expected = match (length < lengths[table], table) {
+                    let expected = match (length < needed, table) {
                         (false, _) => (0, 0),
                         (true, 0) => (4, 0),
                         (true, _) => (5, 0),
