@@ -1,2 +1,3 @@
 -- What an exported entry reports.
+pub mod Records
 pub mod Reports

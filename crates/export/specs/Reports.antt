@@ -14,9 +14,13 @@ pub record Reported (promise : Verdict → Type 0) (number place : ℕ) : Type 0
   pub its-number : number ≡ verdictNumber verdict
   pub its-place : place ≡ verdictPlace verdict
 
--- the number, and in the report the place, the two totals and the reconfigurations, are those of an answer with which the entry keeps its promise
+-- what a plan or a frame reports beside its number: the place, the two totals and the reconfigurations
+abbrev pub reportOf : Answer → List ℕ
+reportOf answer = verdictPlace (verdictOf answer) ∷ keptTotal answer ∷ refusedTotal answer ∷ changes answer ∷ []
+
+-- the number and the report are those of an answer with which the entry keeps its promise
 pub record ReportedPlan (promise : Answer → Type 0) (number : ℕ) (report : List ℕ) : Type 0 where
   pub answer : Answer
   pub kept : promise answer
   pub its-number : number ≡ verdictNumber (verdictOf answer)
-  pub its-report : report ≡ verdictPlace (verdictOf answer) ∷ keptTotal answer ∷ refusedTotal answer ∷ changes answer ∷ []
+  pub its-report : report ≡ reportOf answer

@@ -1,11 +1,19 @@
 // The entries for programs in C and Rust: numbers and slices in, document 01's number out, its place and what else is reported through a reference.
+pub mod records;
+
+use crate::records::numbers;
+use crate::records::read;
+use planner::answers::Answer;
 use planner::answers::kept_total;
 use planner::answers::reconfigured;
 use planner::answers::refused_total;
 use planner::answers::verdict;
+ghost use mathlib.Core.Path.{_≡_};
 ghost use Rattle.slacks.specs.Slacks.{SlacksResult};
-ghost use Rattle.planner.specs.Plans.{PlanResult};
-ghost use Rattle.export.specs.Reports.{Reported, ReportedPlan};
+ghost use Rattle.planner.specs.Plans.{PlanResult, verdictOf};
+ghost use Rattle.run.specs.Runs.{Freshened, freshRun, Posted, postRun, Framed, frameRun};
+ghost use Rattle.export.specs.Records.{numbersOf, recordOf};
+ghost use Rattle.export.specs.Reports.{Reported, ReportedPlan, reportOf};
 
 // `slacks::slacks`; returns the number of the refusal, 0 where the call is accepted, and stores its place.
 #[no_mangle]
@@ -21,6 +29,18 @@ pub extern "C" fn gyodaebeun_slacks(
     let v = slacks::slacks(nodes, slots, demand, table);
     *place = star::refusals::place(v);
     star::refusals::number(v)
+}
+
+// The place, the kept total, the refused total and the reconfigurations of an answer.
+fn reported(a: Answer) -> [u32; 4]
+    ensures { λ r. ⌜ r ≡ reportOf a ⌝ }
+{
+    [
+        star::refusals::place(verdict(a)),
+        kept_total(a),
+        refused_total(a),
+        reconfigured(a),
+    ]
 }
 
 // `planner::plans::plan`; returns the number of the refusal, 0 where the call is accepted, and stores its place, the kept total, the refused
@@ -39,12 +59,91 @@ pub extern "C" fn gyodaebeun_plan(
     ensures { λ r. ⌜ ReportedPlan (PlanResult nodes slots rule (now (demand .entry)) (now (kept .entry)) (now (withdrawn .entry)) (now (schedule .entry)) (now (kept .exit)) (now (withdrawn .exit)) (now (schedule .exit))) r (now (report .exit)) ⌝ }
 {
     let a = planner::plans::plan(nodes, slots, rule, demand, kept, withdrawn, schedule);
-    let v = verdict(a);
-    *report = [
-        star::refusals::place(v),
-        kept_total(a),
-        refused_total(a),
-        reconfigured(a),
-    ];
+    *report = reported(a);
+    star::refusals::number(verdict(a))
+}
+
+// `run::fresh::fresh` with the record as six numbers; returns the number of the refusal, 0 where the call is accepted, and stores its place.
+#[no_mangle]
+pub extern "C" fn gyodaebeun_fresh(
+    run: &mut [u32; 6],
+    nodes: u32,
+    slots: u32,
+    limit: u32,
+    rule: u32,
+    waiting: &mut [u32],
+    posted: &mut [u64],
+    sent: &mut [u64],
+    dropped: &mut [u64],
+    place: &mut u32,
+) -> u32
+    ensures { λ r. ⌜ Reported (λ v. (Freshened (recordOf (now (run .entry))) nodes slots limit rule (now (waiting .entry)) (now (posted .entry)) (now (sent .entry)) (now (dropped .entry)) (now (waiting .exit)) (now (posted .exit)) (now (sent .exit)) (now (dropped .exit)) v) × (now (run .exit) ≡ numbersOf (freshRun (recordOf (now (run .entry))) nodes slots limit rule v))) r (now (place .exit)) ⌝ }
+{
+    let old = read(*run);
+    let v = run::fresh::fresh_on(
+        old,
+        nodes,
+        slots,
+        limit,
+        rule,
+        waiting,
+        posted,
+        sent,
+        dropped,
+    );
+    *run = numbers(run::fresh::fresh_run(old, v, nodes, slots, limit, rule));
+    *place = star::refusals::place(v);
     star::refusals::number(v)
+}
+
+// `run::post::post` with the record as six numbers; returns the number of the refusal, 0 where the call is accepted, and stores its place.
+#[no_mangle]
+pub extern "C" fn gyodaebeun_post(
+    run: &mut [u32; 6],
+    arrivals: &[u32],
+    waiting: &mut [u32],
+    posted: &mut [u64],
+    sent: &[u64],
+    dropped: &mut [u64],
+    place: &mut u32,
+) -> u32
+    ensures { λ r. ⌜ Reported (λ v. (Posted (recordOf (now (run .entry))) (now (arrivals .entry)) (now (waiting .entry)) (now (posted .entry)) (now (sent .entry)) (now (dropped .entry)) (now (waiting .exit)) (now (posted .exit)) (now (dropped .exit)) v) × (now (run .exit) ≡ numbersOf (postRun (recordOf (now (run .entry))) v))) r (now (place .exit)) ⌝ }
+{
+    let old = read(*run);
+    let v = run::post::post_on(old, arrivals, waiting, posted, sent, dropped);
+    *run = numbers(run::post::post_run(old, v));
+    *place = star::refusals::place(v);
+    star::refusals::number(v)
+}
+
+// `run::frame::frame` with the record as six numbers; returns the number of the refusal, 0 where the call is accepted, and stores its place,
+// the kept total, the refused total and the reconfigurations.
+#[no_mangle]
+pub extern "C" fn gyodaebeun_frame(
+    run: &mut [u32; 6],
+    waiting: &mut [u32],
+    posted: &[u64],
+    sent: &mut [u64],
+    dropped: &[u64],
+    kept: &mut [u32],
+    withdrawn: &mut [u32],
+    schedule: &mut [u8],
+    report: &mut [u32; 4],
+) -> u32
+    ensures { λ r. ⌜ ReportedPlan (λ a. (Framed (recordOf (now (run .entry))) (now (waiting .entry)) (now (posted .entry)) (now (sent .entry)) (now (dropped .entry)) (now (kept .entry)) (now (withdrawn .entry)) (now (schedule .entry)) (now (waiting .exit)) (now (sent .exit)) (now (kept .exit)) (now (withdrawn .exit)) (now (schedule .exit)) a) × (now (run .exit) ≡ numbersOf (frameRun (recordOf (now (run .entry))) (verdictOf a)))) r (now (report .exit)) ⌝ }
+{
+    let old = read(*run);
+    let a = run::frame::frame_on(
+        old,
+        waiting,
+        posted,
+        sent,
+        dropped,
+        kept,
+        withdrawn,
+        schedule,
+    );
+    *run = numbers(run::frame::frame_run(old, a));
+    *report = reported(a);
+    star::refusals::number(verdict(a))
 }

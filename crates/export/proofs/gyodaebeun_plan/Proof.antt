@@ -1,61 +1,54 @@
--- `export::gyodaebeun_plan` meets its contract: what each function reads off the answer is reported. Assumes nothing.
-use mathlib.Core.List.{_∷_}
-use mathlib.Core.Path.{refl, ap, ap₂, _∙_}
+use Rattle.star.specs.Refusals.{verdictNumber}
+use mathlib.Core.Path.{ap, _∙_}
 use borrow.Author.Needs.{needs}
-use Rattle.star.specs.Refusals.{verdictNumber, verdictPlace}
 use Rattle.export.proofs.gyodaebeun_plan.Statement.{statement}
 use Rattle.export.proofs.gyodaebeun_plan.Tie as tie
+use Rattle.export.proofs.gyodaebeun_plan.Reads as reads
+use Rattle.export.proofs.gyodaebeun_plan.Lts as lts
+use Rattle.export.proofs.reported.Reads as reported-reads
+use Rattle.planner.proofs.answers.verdict.Reads as verdict-reads
+use Rattle.planner.proofs.plans.plan.Reads as plan-reads
+use Rattle.star.proofs.refusals.number.Reads as number-reads
 
+-- src/lib.rt:60:9
 plan-requires : tie.Need-plan-requires
 plan-requires c κs = search needs
 
+-- src/lib.rt:61:15
+reported-requires : tie.Need-reported-requires
+reported-requires c κs = search needs
+
+-- src/lib.rt:62:28
 verdict-requires : tie.Need-verdict-requires
 verdict-requires c κs = search needs
 
-place-requires : tie.Need-place-requires
-place-requires c κs = search needs
-
-kept-total-requires : tie.Need-kept-total-requires
-kept-total-requires c κs = search needs
-
-refused-total-requires : tie.Need-refused-total-requires
-refused-total-requires c κs = search needs
-
-reconfigured-requires : tie.Need-reconfigured-requires
-reconfigured-requires c κs = search needs
-
+-- src/lib.rt:62:5
 number-requires : tie.Need-number-requires
 number-requires c κs = search needs
 
+-- src/lib.rt:47:1
 same-length : tie.Need-same-length
 same-length c = search needs
 
+-- src/lib.rt:47:1
 same-length-2 : tie.Need-same-length-2
 same-length-2 c = search needs
 
+-- src/lib.rt:47:1
 same-length-3 : tie.Need-same-length-3
 same-length-3 c = search needs
 
+-- src/lib.rt:47:1
 returns : tie.Need-returns
-returns c = record {
-  answer = c .before .before .before .before .before .before .before .before .before .before .before .before .before .plan .result;
-  kept = c .before .before .before .before .before .before .before .before .before .before .before .before .before .plan .ensures;
-  its-number = c .number .ensures ∙ ap verdictNumber (c .before .before .before .before .before .before .verdict .ensures);
-  its-report =
-      ap₂ _∷_ (c .before .before .before .before .before .place .ensures ∙ ap verdictPlace (c .before .before .before .before .before .before .verdict .ensures))
-      (ap₂ _∷_ (c .before .before .before .before .kept-total .ensures) (ap₂ _∷_ (c .before .before .before .refused-total .ensures) (ap₂ _∷_ (c .before .before .reconfigured .ensures) refl)));
-}
+returns c = record { answer = c .before .before .before .before .before .before .before .before .before .plan .result; kept = c .before .before .before .before .before .before .before .before .before .plan .ensures; its-number = c .number .ensures ∙ ap verdictNumber (c .before .verdict .ensures); its-report = c .before .before .reported .ensures }
 
 pub gyodaebeun-plan-spec : {M : Type 1} → statement M
 gyodaebeun-plan-spec =
     tie.close
     (tie.spec
     plan-requires
+    reported-requires
     verdict-requires
-    place-requires
-    kept-total-requires
-    refused-total-requires
-    reconfigured-requires
     number-requires
     same-length
     same-length-2

@@ -1,0 +1,2 @@
+-- The laws of a record read from its numbers.
+pub mod RecordLaws
