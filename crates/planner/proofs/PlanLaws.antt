@@ -5,19 +5,27 @@ use native.Mathlib.Omega.{arith}
 use mathlib.Core.Path.{_≡_, refl, sym, _∙_, ap, ap₂}
 use mathlib.Core.List.{List}
 use lib.ListN.{length, getD, drop}
+use borrow.Author.Tests.{ltb-false}
 use Rattle.sums.specs.Tables.{cell}
 use Rattle.sums.proofs.Sums.{sum-mono}
+use Rattle.sums.proofs.Cases.{by-eq}
+use Rattle.sums.proofs.Tables.{take-cell}
 use Rattle.star.specs.declared.refusals.Refusal.{Refusal}
 use Rattle.star.specs.declared.refusals.Verdict.{Verdict}
 use Rattle.star.specs.declared.refusals.Verdict.the-variants as verdict
 use Rattle.star.specs.Tables.{Demands}
 use Rattle.star.specs.Lines.{total, wholeFrame, Admissible}
 use Rattle.star.specs.Schedules.{Carries, reconfigurations}
+use Rattle.star.proofs.RefusalLaws.{never, passed, neither-of, in-sizes, within-range}
 use Rattle.star.proofs.LineLaws.{capacity, whole-frame-fits}
+use Rattle.fair.specs.Fair.{fairKept}
+use Rattle.fair.proofs.Steps.{fair-below}
+use Rattle.least.specs.Least.{keptFrom}
+use Rattle.least.proofs.Keeping.{kept-below}
 use Rattle.planner.specs.declared.answers.Answer.{Answer}
 use Rattle.planner.specs.declared.answers.Answer.the-variants.{Planned, Refused}
 use Rattle.planner.specs.Kept.{KeepRoom, Kept}
-use Rattle.planner.specs.Plans.{verdictOf, planVerdict, PlanRoom, Wrote, PlanResult}
+use Rattle.planner.specs.Plans.{verdictOf, planVerdict, PlanRoom, Plan, Wrote, PlanResult}
 
 -- a matrix that is at most another at each pair has at most its total
 pub total-below : (n : ℕ) (d k : List ℕ) → ((i j : ℕ) → i < n → j < n → cell n k i j ≤ cell n d i j) → total n k ≤ total n d
@@ -51,6 +59,13 @@ module _ {n l rule : ℕ} {cap d kept withdrawn schedule : List ℕ} (room : Pla
     reconfigured = ec;
   }
 
+-- no pair keeps more than it asks
+pub plan-below : {n l rule : ℕ} {cap d kept withdrawn schedule : List ℕ} → rule ≤ 1 → Plan n l rule cap d kept withdrawn schedule → (i j : ℕ) → i < n → j < n → cell n kept i j ≤ cell n d i j
+plan-below {n} {l} {rule} {cap} {d} {kept} {withdrawn} known p i j hi hj =
+    by-eq rule 0
+    (λ e. omega (arith, take-cell n kept (fairKept n cap d) (p .fair e .0) i j hi hj, fair-below n cap d i j hi hj))
+    (λ ne. let e : rule ≡ 1 = omega arith in omega (arith, take-cell n kept (keptFrom n cap d withdrawn) (p .least e .1) i j hi hj, kept-below n cap d withdrawn i j hi hj))
+
 -- ---- the entry
 -- a frame of 1,024 slots and 64 nodes has 65,536 bytes
 pub frame-small : (l n : ℕ) → l ≤ 1024 → n ≤ 64 → l * n ≤ 65536
@@ -74,19 +89,35 @@ whole-room {n} {l} numbers demand within rooms = record {
   schedule-room = rooms .2;
 }
 
-module _ (n l rule : ℕ) (d kept withdrawn schedule : List ℕ) where
+module _ (n l rule : ℕ) (d kept withdrawn schedule : List ℕ) {v : Verdict} (is : v ≡ planVerdict n l rule d (length kept) (length withdrawn) (length schedule)) where
   -- a refusal writes nothing
-  pub refused-plan : (x : Refusal) → verdict.Refused x ≡ planVerdict n l rule d (length kept) (length withdrawn) (length schedule) → PlanResult n l rule d kept withdrawn schedule kept withdrawn schedule (Refused x)
-  refused-plan x e = record {
-    answer = e;
-    accepted = λ q. let z : _≡_ {A = ℕ} 0 1 = cc in absurd (omega arith);
+  pub refused-plan : {x : Refusal} → v ≡ verdict.Refused x → PlanResult n l rule d kept withdrawn schedule kept withdrawn schedule (Refused x)
+  refused-plan e = record {
+    answer = sym e ∙ is;
+    accepted = λ q. absurd (never q);
     refused = λ y q. (refl, refl, refl);
   }
 
-  pub accepted-plan : (cap : List ℕ) {kept' withdrawn' schedule' : List ℕ} {r : Answer} → cap ≡ wholeFrame n l → verdict.Accepted ≡ planVerdict n l rule d (length kept) (length withdrawn) (length schedule) →
-      Wrote n l rule cap d kept withdrawn schedule kept' withdrawn' schedule' r → verdictOf r ≡ verdict.Accepted → PlanResult n l rule d kept withdrawn schedule kept' withdrawn' schedule' r
-  accepted-plan cap {kept'} {withdrawn'} {schedule'} {r} whole e w a = record {
-    answer = a ∙ e;
-    accepted = λ _. rw whole at w;
-    refused = λ y q. let z : _≡_ {A = ℕ} 0 1 = cc in absurd (omega arith);
+  -- all checks have passed, so that the work has its room
+  pub plan-room : v ≡ verdict.Accepted → PlanRoom n l rule (wholeFrame n l) d kept withdrawn schedule
+  unfolding planVerdict
+  plan-room e =
+      let a = in-sizes n l (sym is ∙ e) in
+      let b = passed _ _ _ (a .1) in
+      let c = passed _ _ _ (b .1) in
+      let t = passed _ _ _ (c .1) in
+      let s = neither-of _ _ (t .0) in
+      let k = neither-of _ _ (s .0) in
+      whole-room
+      (a .0 .some-nodes, a .0 .nodes, a .0 .some-slots, a .0 .slots, ltb-false 1 rule (b .0))
+      (ltb-false _ _ (c .0))
+      (within-range n d (ltb-false _ _ (passed _ _ _ (t .1) .0)))
+      (ltb-false _ _ (k .0), ltb-false _ _ (k .1), ltb-false _ _ (s .1))
+
+  pub accepted-plan : v ≡ verdict.Accepted → {kept' withdrawn' schedule' : List ℕ} {r : Answer} → Wrote n l rule (wholeFrame n l) d kept withdrawn schedule kept' withdrawn' schedule' r →
+      verdictOf r ≡ verdict.Accepted → PlanResult n l rule d kept withdrawn schedule kept' withdrawn' schedule' r
+  accepted-plan e w a = record {
+    answer = a ∙ sym e ∙ is;
+    accepted = λ _. w;
+    refused = λ y q. absurd (never (sym q ∙ a));
   }

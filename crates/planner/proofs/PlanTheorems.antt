@@ -21,6 +21,7 @@ use Rattle.star.specs.declared.refusals.Verdict.the-variants as verdict
 use Rattle.star.specs.Refusals.{refuse, firstAbove}
 use Rattle.star.specs.Lines.{total, wholeFrame, lineSum, onLine, sourceOn, destinationOn, Admissible}
 use Rattle.star.specs.Schedules.{ConflictFree, Carries, count, refusedBy}
+use Rattle.star.proofs.RefusalLaws.{passed}
 use Rattle.star.proofs.LineLaws.{line-ext, total-ext}
 use Rattle.fair.specs.Fair.{fairKept, steps, step, uncut, taken, smaller, exceeds, numerator, modifiedSum, unmodifiedSum, modified, cutLine, cutCell}
 use Rattle.fair.proofs.Steps.{fair-admissible, fair-below}
@@ -31,27 +32,15 @@ use Rattle.planner.specs.declared.answers.Answer.{Answer}
 use Rattle.planner.specs.declared.answers.Answer.the-variants.{Planned, Refused}
 use Rattle.planner.specs.Plans.{verdictOf, keptTotal, refusedTotal, planVerdict, Plan, Wrote, PlanResult}
 use Rattle.planner.specs.Theorems.{AcceptedPlan, LeastPlan, Agree, WrongPlanners, PlanTheorems}
-use Rattle.planner.proofs.PlanLaws.{total-below}
+use Rattle.planner.proofs.PlanLaws.{total-below, plan-below}
 
 -- ---- an accepted call has passed the check of its rule
--- a chain of checks that accepts has passed each of them
-passed : (b : Bool) (x : Refusal) (later : Verdict) → refuse b x later ≡ verdict.Accepted → (b ≡ false) × (later ≡ verdict.Accepted)
-unfolding refuse
-passed true x later e = let z : _≡_ {A = ℕ} 0 1 = cc in absurd (omega arith)
-passed false x later e = (refl, e)
-
 known-rule : (n l rule : ℕ) (d : List ℕ) (k a s : ℕ) → planVerdict n l rule d k a s ≡ verdict.Accepted → rule ≤ 1
 unfolding planVerdict
 known-rule n l rule d k a s e = ltb-false 1 rule (passed _ _ _ (passed _ _ _ (passed _ _ _ e .1) .1) .0)
 
 -- ---- one plan
 module _ {n l rule : ℕ} {d k a s : List ℕ} (known : rule ≤ 1) (p : Plan n l rule (wholeFrame n l) d k a s) where
-  plan-below : (i j : ℕ) → i < n → j < n → cell n k i j ≤ cell n d i j
-  plan-below i j hi hj =
-      by-eq rule 0
-      (λ e. omega (arith, take-cell n k (fairKept n (wholeFrame n l) d) (p .fair e .0) i j hi hj, fair-below n (wholeFrame n l) d i j hi hj))
-      (λ ne. omega (arith, take-cell n k (keptFrom n (wholeFrame n l) d a) (p .least (omega arith) .1) i j hi hj, kept-below n (wholeFrame n l) d a i j hi hj))
-
   plan-admissible : Admissible n (wholeFrame n l) k
   plan-admissible =
       by-eq rule 0
@@ -68,7 +57,7 @@ module _ {n l rule : ℕ} {d k a s : List ℕ} (known : rule ≤ 1) (p : Plan n 
       sym (sum-add n (λ i. sumTo n (λ j. cell n d i j - count n l s i j)) (λ i. sumTo n (λ j. cell n k i j)))
       ∙ sum-ext n _ _ (λ i hi.
       sym (sum-add n (λ j. cell n d i j - count n l s i j) (λ j. cell n k i j))
-      ∙ sum-ext n _ _ (λ j hj. omega (arith, p .carried .exact i j hi hj, plan-below i j hi hj)))
+      ∙ sum-ext n _ _ (λ j hj. omega (arith, p .carried .exact i j hi hj, plan-below known p i j hi hj)))
 
 pub plan-accepted : (n l rule : ℕ) (d k a s k' a' s' : List ℕ) (r : Answer) → PlanResult n l rule d k a s k' a' s' r → verdictOf r ≡ verdict.Accepted → AcceptedPlan n l d k' s' r
 plan-accepted n l rule d k a s k' a' s' r result ok =

@@ -1,7 +1,7 @@
 -- A plan of a demand; the entry `plan`: which refusal it gives, in which order, what it reports, and what its tables then hold.
 use Prim.Native.Nat.{ℕ, _-_, _*_, _≤_, _<_}
 use mathlib.Core.Path.{_≡_}
-use mathlib.Core.Bool.{_||_}
+use mathlib.Core.Bool.{Bool, _||_}
 use mathlib.Core.List.{List}
 use lib.ListN.{length, getD, take, drop, replicate}
 use Rattle.star.specs.declared.refusals.Refusal.{Refusal}
@@ -35,6 +35,10 @@ abbrev pub changes : Answer → ℕ
 changes (Planned k f c) = c
 changes (Refused r) = 0
 
+-- any of the three tables that a plan writes too short, given how many cells each has
+abbrev pub planShort : (n l kept withdrawn schedule : ℕ) → Bool
+planShort n l kept withdrawn schedule = short kept (n * n) || short withdrawn (n * n) || short schedule (l * n)
+
 -- Plan 1 to 6: N, L, the rule, the demand, and how many cells each table has that is to be written.
 unfoldable pub planVerdict : (n l rule : ℕ) (d : List ℕ) (kept withdrawn schedule : ℕ) → Verdict
 planVerdict n l rule d kept withdrawn schedule =
@@ -42,7 +46,7 @@ planVerdict n l rule d kept withdrawn schedule =
     (refuse (slotsOut l) Slots
     (refuse (ruleOut rule) Rule
     (refuse (short (length d) (n * n)) DemandShort
-    (refuse (short kept (n * n) || short withdrawn (n * n) || short schedule (l * n)) TableShort
+    (refuse (planShort n l kept withdrawn schedule) TableShort
     (refuse (someCell (n * n) (firstAbove n d)) (DemandAbove (firstAbove n d))
     verdict.Accepted)))))
 

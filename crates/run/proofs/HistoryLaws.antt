@@ -20,6 +20,7 @@ use Rattle.star.specs.declared.refusals.Verdict.the-variants.{Accepted, Refused
 use Rattle.star.specs.Refusals.{refuse, refusalNumber, someCell}
 use Rattle.star.specs.Lines.{wholeFrame}
 use Rattle.star.specs.Schedules.{ConflictFree, count}
+use Rattle.star.proofs.RefusalLaws.{never}
 use Rattle.planner.specs.declared.answers.Answer.{Answer}
 use Rattle.planner.specs.declared.answers.Answer.the-variants as answer
 use Rattle.planner.specs.Plans.{verdictOf, Wrote}
@@ -29,8 +30,9 @@ use Rattle.run.specs.Runs.{freshRun, cleared, postVerdict, postRun, post
 use Rattle.run.specs.Checks.{Ranges}
 use Rattle.run.specs.Calls.{Held, FreshCall, PostCall, FrameCall}
 use Rattle.run.specs.Histories.{Lent, Event, posting, framing, outcome, Happens, History, started, continued, arrived, carried, queue, exceeded, postsOf, framesOf, met, given, BooksHold}
-use Rattle.run.proofs.Verdicts.{never, fresh-accepted, post-accepted}
-use Rattle.run.proofs.SentLaws.{at-place, plan-below, plan-most, met-ext}
+use Rattle.run.proofs.Verdicts.{fresh-accepted, post-accepted}
+use Rattle.planner.proofs.PlanLaws.{plan-below}
+use Rattle.run.proofs.SentLaws.{at-place, plan-most, met-ext}
 
 -- ---- a pair of a table that was written by a rule
 module _ (n : ℕ) (f : ℕ → ℕ) (old : List ℕ) (i j : ℕ) (hi : i < n) (hj : j < n) where
@@ -189,7 +191,7 @@ module _ {n l limit rule : ℕ} {es : List Event} (lent plan : Lent) {h h' : Hel
 
     sent-waited : (i j : ℕ) → i < n → j < n → count n l (plan .schedule) i j ≤ cell n (h .waiting) i j
     sent-waited i j hi hj =
-        omega (arith, planned .plan .carried .exact i j hi hj, plan-below (planned .plan) (now .ranges .known-rule) i j hi hj)
+        omega (arith, planned .plan .carried .exact i j hi hj, plan-below (now .ranges .known-rule) (planned .plan) i j hi hj)
 
     now-framed : Now n l limit rule (framing lent plan (answer.Planned k f d) ∷ es) h'
     unfolding frameRun arrived carried queue exceeded postsOf framesOf

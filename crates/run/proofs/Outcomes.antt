@@ -11,6 +11,7 @@ use Rattle.star.specs.declared.refusals.Verdict.{Verdict}
 use Rattle.star.specs.declared.refusals.Verdict.the-variants.{Accepted, Refused}
 use Rattle.star.specs.Tables.{Square}
 use Rattle.star.specs.Lines.{wholeFrame}
+use Rattle.star.proofs.RefusalLaws.{never}
 use Rattle.planner.specs.declared.answers.Answer.{Answer}
 use Rattle.planner.specs.declared.answers.Answer.the-variants as answer
 use Rattle.planner.specs.Plans.{verdictOf, PlanRoom, Wrote}
@@ -18,7 +19,7 @@ use Rattle.planner.proofs.PlanLaws.{whole-room}
 use Rattle.books.specs.Rooms.{Tables, Adds, Arrives, Drops, Takes}
 use Rattle.run.specs.declared.record.Run.{Run}
 use Rattle.run.specs.Runs.{freshVerdict, cleared, Freshened, postVerdict, postWaiting, postPosted, postDropped, Posted, frameVerdict, Framed}
-use Rattle.run.proofs.Verdicts.{never, PostFits, FrameFits, fresh-accepted, post-accepted, frame-accepted}
+use Rattle.run.proofs.Verdicts.{PostFits, FrameFits, fresh-accepted, post-accepted, frame-accepted}
 use Rattle.run.proofs.SentLaws.{plan-below-at}
 
 -- ---- fresh

@@ -1,4 +1,4 @@
--- What a plan's tables say of its demand, pair by pair: no pair keeps more than it asks, and under the least rule no conflict-free schedule meets
+-- What a plan's tables say of its demand, place by place: none keeps more than it asks, and under the least rule no conflict-free schedule meets
 -- more. A demand that is met and what is refused of it make up the demand; the rest is the laws of the two rules. Assumes nothing.
 use Prim.Native.Nat.{ℕ, _+_, _-_, _*_, _/_, _%_, _≤_, _<_, min}
 use native.Mathlib.Omega.{arith}
@@ -8,17 +8,14 @@ use lib.ListN.{getD}
 use Rattle.sums.specs.Sums.{sumTo}
 use Rattle.sums.specs.Tables.{cell}
 use Rattle.sums.proofs.Sums.{sum-ext, sum-add}
-use Rattle.sums.proofs.Cases.{by-eq}
 use Rattle.sums.proofs.Tables.{take-cell, place-split}
 use Rattle.star.specs.Lines.{total, wholeFrame}
 use Rattle.star.specs.Schedules.{ConflictFree, count, refusedBy}
 use Rattle.star.proofs.LineLaws.{total-ext}
-use Rattle.fair.specs.Fair.{fairKept}
-use Rattle.fair.proofs.Steps.{fair-below}
 use Rattle.least.specs.Least.{keptFrom}
-use Rattle.least.proofs.Keeping.{kept-below}
 use Rattle.least.proofs.LeastIsLeast.{least-is-least-whole}
 use Rattle.planner.specs.Plans.{Plan}
+use Rattle.planner.proofs.PlanLaws.{plan-below}
 use Rattle.run.specs.Histories.{met, given}
 
 -- the cell at a place is that of its pair
@@ -27,16 +24,9 @@ unfolding cell
 at-place n t p lt = ap (λ x. getD t x 0) (sym (place-split n p lt .1 .1))
 
 module _ {n l rule : ℕ} {cap d kept withdrawn schedule : List ℕ} (p : Plan n l rule cap d kept withdrawn schedule) where
-  pub plan-below : rule ≤ 1 → (i j : ℕ) → i < n → j < n → cell n kept i j ≤ cell n d i j
-  plan-below known i j hi hj =
-      by-eq rule 0
-      (λ e. omega (arith, take-cell n kept (fairKept n cap d) (p .fair e .0) i j hi hj, fair-below n cap d i j hi hj))
-      (λ ne. let e : rule ≡ 1 = omega arith in
-      omega (arith, take-cell n kept (keptFrom n cap d withdrawn) (p .least e .1) i j hi hj, kept-below n cap d withdrawn i j hi hj))
-
   pub plan-below-at : rule ≤ 1 → (q : ℕ) → q < n * n → getD kept q 0 ≤ getD d q 0
   plan-below-at known q lt = let s = place-split n q lt in
-      omega (arith, at-place n kept q lt, at-place n d q lt, plan-below known (q / n) (q % n) (s .0) (s .1 .0))
+      omega (arith, at-place n kept q lt, at-place n d q lt, plan-below known p (q / n) (q % n) (s .0) (s .1 .0))
 
   -- the schedule gives what is kept
   pub given-kept : given n l schedule ≡ total n kept

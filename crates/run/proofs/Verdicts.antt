@@ -1,9 +1,9 @@
--- Chains of checks read backwards: what an accepted call has passed, and what a chain gives once its first checks are known. A check that
--- gives Accepted did not fire, and left it to the later ones. Assumes nothing.
+-- The chains of a run's checks read backwards: what an accepted call has passed, and what a chain gives once its first checks are known.
+-- Assumes nothing.
 use Prim.Native.Nat.{ℕ, _*_, _≤_, _<_}
 use native.Mathlib.Omega.{arith}
 use mathlib.Core.Path.{_≡_, refl, sym, _∙_}
-use mathlib.Core.Bool.{Bool, true, false, _||_}
+use mathlib.Core.Bool.{false}
 use mathlib.Core.List.{List}
 use lib.ListN.{length, getD}
 use borrow.Author.Tests.{ltb-false, leb-false}
@@ -11,45 +11,15 @@ use Rattle.star.specs.declared.refusals.Refusal.{Refusal}
 use Rattle.star.specs.declared.refusals.Refusal.the-variants.{Nodes, Slots, Rule, QueueLimit, BooksDisagree, CallsSpent}
 use Rattle.star.specs.declared.refusals.Verdict.{Verdict}
 use Rattle.star.specs.declared.refusals.Verdict.the-variants.{Accepted, Refused}
-use Rattle.star.specs.Refusals.{refuse, outside, nodesOut, slotsOut, ruleOut, limitOut, short, spent, someCell}
+use Rattle.star.specs.Refusals.{refuse, nodesOut, slotsOut, ruleOut, limitOut, short, spent, someCell}
 use Rattle.star.specs.Tables.{Square, Demands}
-use Rattle.star.proofs.RefusalLaws.{within-range}
+use Rattle.star.proofs.RefusalLaws.{never, passed, still-fires, still-passes, neither-of, in-its-range, in-sizes, within-range}
 use Rattle.books.specs.Books.{firstDisagreeing}
 use Rattle.books.specs.Rooms.{Tables}
 use Rattle.books.proofs.Agreements.{Agree, agreeing}
 use Rattle.run.specs.declared.record.Run.{Run}
 use Rattle.run.specs.Runs.{runShort, freshVerdict, postVerdict, frameVerdict}
 use Rattle.run.specs.Checks.{rangesVerdict, booksVerdict, Ranges}
-
--- ---- one check
-pub never : {r : Refusal} → Refused r ≡ Accepted → ⊥
-never e = let z : _≡_ {A = ℕ} 0 1 = cc in omega arith
-
--- an accepted call has passed the check, and the later ones
-pub passed : (b : Bool) (r : Refusal) (later : Verdict) → refuse b r later ≡ Accepted → (b ≡ false) × (later ≡ Accepted)
-unfolding refuse
-passed true r later e = absurd (never e)
-passed false r later e = (refl, e)
-
--- a check that gives its refusal gives it whatever comes later
-pub still-fires : (b : Bool) (r : Refusal) {s : Refusal} {x y : Verdict} → (x ≡ Refused s → y ≡ Refused s) → refuse b r x ≡ Refused s → refuse b r y ≡ Refused s
-unfolding refuse
-still-fires true r f e = e
-still-fires false r f e = f e
-
--- a check that is passed is passed whatever comes later
-pub still-passes : (b : Bool) (r : Refusal) {v x y : Verdict} → (x ≡ Accepted → v ≡ y) → refuse b r x ≡ Accepted → v ≡ refuse b r y
-unfolding refuse
-still-passes true r f e = absurd (never e)
-still-passes false r f e = f e
-
-pub neither-of : (a b : Bool) → (a || b) ≡ false → (a ≡ false) × (b ≡ false)
-neither-of true b e = let z : _≡_ {A = ℕ} 0 1 = cc in absurd (omega arith)
-neither-of false b e = (refl, e)
-
-pub in-its-range : (low high x : ℕ) → outside low high x ≡ false → (low ≤ x) × (x ≤ high)
-in-its-range low high x e = let h = neither-of _ _ e in
-    (ltb-false x low (h .0), ltb-false high x (h .1))
 
 -- ---- 1, 2, 3, 7
 module _ (n l rule limit : ℕ) where
@@ -67,14 +37,21 @@ module _ (n l rule limit : ℕ) where
   pub in-ranges : {later : Verdict} → refuse (nodesOut n) Nodes (refuse (slotsOut l) Slots (refuse (ruleOut rule) Rule (refuse (limitOut limit) QueueLimit later))) ≡ Accepted →
       (Ranges n l rule limit) × (later ≡ Accepted)
   in-ranges e =
-      let a = passed _ _ _ e in
-      let b = passed _ _ _ (a .1) in
-      let c = passed _ _ _ (b .1) in
+      let a = in-sizes n l e in
+      let c = passed _ _ _ (a .1) in
       let d = passed _ _ _ (c .1) in
-      let nodes = in-its-range 1 64 n (a .0) in
-      let slots = in-its-range 1 1024 l (b .0) in
-      let room = in-its-range 1 65535 limit (d .0) in
-      (record { some-nodes = nodes .0; nodes = nodes .1; some-slots = slots .0; slots = slots .1; known-rule = ltb-false 1 rule (c .0); some-room = room .0; room = room .1 }, d .1)
+      let room = in-its-range 1 65535 limit (d .0) in (
+        record {
+          some-nodes = a .0 .some-nodes;
+          nodes = a .0 .nodes;
+          some-slots = a .0 .some-slots;
+          slots = a .0 .slots;
+          known-rule = ltb-false 1 rule (c .0);
+          some-room = room .0;
+          room = room .1;
+        },
+        d .1,
+      )
 
   pub ranged : {v : Verdict} → v ≡ rangesVerdict n l rule limit → v ≡ Accepted → Ranges n l rule limit
   unfolding rangesVerdict

@@ -13,7 +13,7 @@ use Rattle.star.specs.declared.refusals.Verdict.the-variants.{Accepted, Refused
 use Rattle.star.specs.Refusals.{refuse, nodesOut, slotsOut, ruleOut, limitOut, short, spent, someCell, firstAbove}
 use Rattle.star.specs.Lines.{wholeFrame}
 use Rattle.planner.specs.declared.answers.Answer.{Answer}
-use Rattle.planner.specs.Plans.{verdictOf, Wrote}
+use Rattle.planner.specs.Plans.{verdictOf, planShort, Wrote}
 use Rattle.run.specs.declared.record.Run.{Run}
 use Rattle.books.specs.Books.{firstDisagreeing}
 
@@ -94,10 +94,6 @@ pub record Posted (old : Run) (arrivals waiting posted sent dropped waiting' pos
   pub now-dropped : dropped' ≡ postDropped old arrivals waiting dropped v
 
 -- ---- frame
--- any of the three tables that a frame writes too short, given how many cells each has
-abbrev pub planShort : (n l kept withdrawn schedule : ℕ) → Bool
-planShort n l kept withdrawn schedule = short kept (n * n) || short withdrawn (n * n) || short schedule (l * n)
-
 -- Frame 1, 2, 3, 7, 5, 8, 9; the last three numbers say how many cells kept, withdrawn and schedule have.
 unfoldable pub frameVerdict : (old : Run) (waiting posted sent dropped : List ℕ) (kept withdrawn schedule : ℕ) → Verdict
 frameVerdict old waiting posted sent dropped kept withdrawn schedule =

@@ -1,38 +1,23 @@
 // The checks that the entries of a run share, in document 01's order.
 use books::agreement::first_disagreeing;
+use star::checks::outside;
+use star::checks::sizes;
 use star::refusals::Refusal;
 use star::refusals::Verdict;
 ghost use mathlib.Core.Path.{_≡_};
 ghost use Prim.Native.Nat.{_≤_};
-ghost use Rattle.star.specs.Refusals.{outside};
 ghost use Rattle.books.specs.Rooms.{Tables};
-ghost use Rattle.run.specs.Runs.{runShort, planShort};
+ghost use Rattle.run.specs.Runs.{runShort};
 ghost use Rattle.run.specs.Checks.{rangesVerdict, booksVerdict};
-
-// Whether a number is outside its range.
-fn outside(low: u32, high: u32, x: u32) -> bool
-    ensures { λ r. ⌜ r ≡ outside low high x ⌝ }
-{
-    if x < low {
-        return true;
-    }
-    high < x
-}
 
 // N (1), L (2), the rule (3) and B (7).
 pub fn ranges(nodes: u32, slots: u32, rule: u32, limit: u32) -> Verdict
     ensures { λ v. ⌜ v ≡ rangesVerdict nodes slots rule limit ⌝ }
 {
-    if outside(1, 64, nodes) {
-        return Verdict::Refused {
-            refusal: Refusal::Nodes,
-        };
-    }
-    if outside(1, 1024, slots) {
-        return Verdict::Refused {
-            refusal: Refusal::Slots,
-        };
-    }
+    let v = sizes(nodes, slots);
+    let Verdict::Accepted = v else {
+        return v;
+    };
     if rule > 1 {
         return Verdict::Refused {
             refusal: Refusal::Rule,
@@ -43,7 +28,7 @@ pub fn ranges(nodes: u32, slots: u32, rule: u32, limit: u32) -> Verdict
             refusal: Refusal::QueueLimit,
         };
     }
-    Verdict::Accepted
+    v
 }
 
 // Whether any of a run's four tables is too short, given how many cells each has.
@@ -62,21 +47,6 @@ pub fn short(n: usize, waiting: usize, posted: usize, sent: usize, dropped: usiz
         return true;
     }
     dropped < cells
-}
-
-// Whether any of the three tables that a frame writes is too short, given how many cells each has.
-pub fn short_plan(n: usize, l: usize, kept: usize, withdrawn: usize, schedule: usize) -> bool
-    requires { ⌜ (n ≤ 64) × (l ≤ 1024) ⌝ }
-    ensures { λ r. ⌜ r ≡ planShort n l kept withdrawn schedule ⌝ }
-{
-    let cells = n * n;
-    if kept < cells {
-        return true;
-    }
-    if withdrawn < cells {
-        return true;
-    }
-    schedule < l * n
 }
 
 // The books of each pair (8), and how often this kind of call was accepted (9).

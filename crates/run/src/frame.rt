@@ -2,12 +2,12 @@
 use crate::checks::books;
 use crate::checks::ranges;
 use crate::checks::short;
-use crate::checks::short_plan;
 use crate::record::Run;
 use books::amounts::add;
 use books::queues::dequeue;
 use planner::answers::Answer;
-use planner::plans::write;
+use planner::checks::plan_short;
+use planner::plans::write_whole;
 use star::refusals::Refusal;
 use star::refusals::Verdict;
 ghost use mathlib.Core.Path.{_≡_};
@@ -39,7 +39,7 @@ fn frame_verdict(
             refusal: Refusal::TableShort,
         };
     }
-    if short_plan(n, old.slots as usize, kept, withdrawn, schedule) {
+    if plan_short(n, old.slots as usize, kept, withdrawn, schedule) {
         return Verdict::Refused {
             refusal: Refusal::TableShort,
         };
@@ -82,19 +82,16 @@ pub fn frame_on(
     if let Verdict::Refused { refusal } = v {
         return Answer::Refused { refusal: refusal };
     }
-    let n = old.nodes as usize;
-    let lines = 2 * n;
-    let cap = [old.slots; 128];
-    let a = write(
-        n,
-        old.slots as usize,
+    let a = write_whole(
+        old.nodes,
+        old.slots,
         old.rule,
-        &cap[..lines],
         waiting,
         kept,
         withdrawn,
         schedule,
     );
+    let n = old.nodes as usize;
     dequeue(n, kept, waiting);
     add(n, sent, kept);
     a

@@ -1,4 +1,5 @@
 // The entry `slacks`: what is left of the frame on each line.
+use star::checks::sizes;
 use star::lines::first_above;
 use star::lines::line_sum;
 use star::lines::slack;
@@ -10,7 +11,7 @@ ghost use lib.ListN.{length};
 ghost use Rattle.sums.specs.Tables.{tab, written};
 ghost use Rattle.star.specs.Tables.{Square, Demands, Capacities};
 ghost use Rattle.star.specs.Lines.{slack};
-ghost use Rattle.slacks.specs.Slacks.{SlacksResult};
+ghost use Rattle.slacks.specs.Slacks.{slacksVerdict, SlacksResult};
 
 // Writes the slack of each line, given the capacity of each.
 fn fill(n: usize, cap: &[u32], demand: &[u32], table: &mut [i32])
@@ -26,39 +27,21 @@ fn fill(n: usize, cap: &[u32], demand: &[u32], table: &mut [i32])
     }
 }
 
-// The slack of each line, rows first, to a table of 2N cells. Refused, in this order: N (1), L (2), a short demand (4), a short table (5),
-// a demand above 65,535 (6); then nothing is written.
-pub fn slacks(nodes: u32, slots: u32, demand: &[u32], table: &mut [i32]) -> Verdict
-    ensures { λ v. ⌜ SlacksResult nodes slots (now (demand .entry)) (now (table .entry)) (now (table .exit)) v ⌝ }
+// Which refusal is given, if any; the last number says how many cells the table has.
+fn slacks_verdict(nodes: u32, slots: u32, demand: &[u32], room: usize) -> Verdict
+    ensures { λ v. ⌜ v ≡ slacksVerdict nodes slots (now (demand .entry)) room ⌝ }
 {
-    if nodes < 1 {
-        return Verdict::Refused {
-            refusal: Refusal::Nodes,
-        };
-    }
-    if nodes > 64 {
-        return Verdict::Refused {
-            refusal: Refusal::Nodes,
-        };
-    }
-    if slots < 1 {
-        return Verdict::Refused {
-            refusal: Refusal::Slots,
-        };
-    }
-    if slots > 1024 {
-        return Verdict::Refused {
-            refusal: Refusal::Slots,
-        };
-    }
+    let v = sizes(nodes, slots);
+    let Verdict::Accepted = v else {
+        return v;
+    };
     let n = nodes as usize;
     if demand.len() < n * n {
         return Verdict::Refused {
             refusal: Refusal::DemandShort,
         };
     }
-    let lines = 2 * n;
-    if table.len() < lines {
+    if room < 2 * n {
         return Verdict::Refused {
             refusal: Refusal::TableShort,
         };
@@ -69,7 +52,21 @@ pub fn slacks(nodes: u32, slots: u32, demand: &[u32], table: &mut [i32]) -> Verd
             refusal: Refusal::DemandAbove { cell: above as u32 },
         };
     }
+    v
+}
+
+// The slack of each line, rows first, to a table of 2N cells. Refused, in this order: N (1), L (2), a short demand (4), a short table (5),
+// a demand above 65,535 (6); then nothing is written.
+pub fn slacks(nodes: u32, slots: u32, demand: &[u32], table: &mut [i32]) -> Verdict
+    ensures { λ v. ⌜ SlacksResult nodes slots (now (demand .entry)) (now (table .entry)) (now (table .exit)) v ⌝ }
+{
+    let v = slacks_verdict(nodes, slots, demand, table.len());
+    let Verdict::Accepted = v else {
+        return v;
+    };
+    let n = nodes as usize;
     let cap = [slots; 128];
+    let lines = 2 * n;
     fill(n, &cap[..lines], demand, table);
-    Verdict::Accepted
+    v
 }

@@ -1,4 +1,5 @@
--- Checks in their order: one that fires gives its refusal, one that does not leaves it to the later ones. The laws assume nothing.
+-- Checks in their order: one that fires gives its refusal, one that does not leaves it to the later ones. And read backwards: what an accepted
+-- call has passed, and what a chain gives once its first checks are known. The laws assume nothing.
 use Prim.Native.Nat.{ℕ, _*_, _≤_, _<_}
 use native.Mathlib.Omega.{arith}
 use mathlib.Core.Path.{_≡_, refl, sym, _∙_, ap}
@@ -11,9 +12,10 @@ use Rattle.sums.proofs.Searches.{first-before}
 use Rattle.star.specs.declared.refusals.Refusal.{Refusal}
 use Rattle.star.specs.declared.refusals.Refusal.the-variants.{Nodes, Slots}
 use Rattle.star.specs.declared.refusals.Verdict.{Verdict}
-use Rattle.star.specs.declared.refusals.Verdict.the-variants.{Refused}
+use Rattle.star.specs.declared.refusals.Verdict.the-variants.{Accepted, Refused}
 use Rattle.star.specs.Tables.{Demands}
 use Rattle.star.specs.Refusals.{refuse, outside, nodesOut, slotsOut, firstAbove}
+use Rattle.star.specs.Checks.{sizesVerdict, Sizes}
 
 pub fires : {b : Bool} {r : Refusal} (later : Verdict) → b ≡ true → Refused r ≡ refuse b r later
 unfolding refuse
@@ -22,6 +24,28 @@ fires later e = rw e refl
 pub passes : {b : Bool} (r : Refusal) {v later : Verdict} → b ≡ false → v ≡ later → v ≡ refuse b r later
 unfolding refuse
 passes r e h = rw e h
+
+-- ---- one check read backwards
+pub never : {r : Refusal} → Refused r ≡ Accepted → ⊥
+never e = let z : _≡_ {A = ℕ} 0 1 = cc in omega arith
+
+-- an accepted call has passed the check, and the later ones
+pub passed : (b : Bool) (r : Refusal) (later : Verdict) → refuse b r later ≡ Accepted → (b ≡ false) × (later ≡ Accepted)
+unfolding refuse
+passed true r later e = absurd (never e)
+passed false r later e = (refl, e)
+
+-- a check that gives its refusal gives it whatever comes later
+pub still-fires : (b : Bool) (r : Refusal) {s : Refusal} {x y : Verdict} → (x ≡ Refused s → y ≡ Refused s) → refuse b r x ≡ Refused s → refuse b r y ≡ Refused s
+unfolding refuse
+still-fires true r f e = e
+still-fires false r f e = f e
+
+-- a check that is passed is passed whatever comes later
+pub still-passes : (b : Bool) (r : Refusal) {v x y : Verdict} → (x ≡ Accepted → v ≡ y) → refuse b r x ≡ Accepted → v ≡ refuse b r y
+unfolding refuse
+still-passes true r f e = absurd (never e)
+still-passes false r f e = f e
 
 -- ---- a number and its range
 pub too-low : (low high x : ℕ) → x < low → outside low high x ≡ true
@@ -33,10 +57,6 @@ too-high low high x h k = simp (le-ltb x low h, lt-ltb high x k)
 pub inside : (low high x : ℕ) → low ≤ x → x ≤ high → outside low high x ≡ false
 inside low high x h k = simp (le-ltb x low h, le-ltb high x k)
 
--- N and L are within their ranges
-pub in-range : (n l : ℕ) {v later : Verdict} → 1 ≤ n → n ≤ 64 → 1 ≤ l → l ≤ 1024 → v ≡ later → v ≡ refuse (nodesOut n) Nodes (refuse (slotsOut l) Slots later)
-in-range n l n1 n64 l1 l1024 h = passes Nodes (inside 1 64 n n1 n64) (passes Slots (inside 1 1024 l l1 l1024) h)
-
 -- ---- one of several tests
 pub first-of : (a b : Bool) → a ≡ true → (a || b) ≡ true
 first-of a b e = rw e refl
@@ -46,6 +66,35 @@ second-of a b e f = rw (e, f) refl
 
 pub neither : (a b : Bool) → a ≡ false → b ≡ false → (a || b) ≡ false
 neither a b e f = rw (e, f) refl
+
+pub neither-of : (a b : Bool) → (a || b) ≡ false → (a ≡ false) × (b ≡ false)
+neither-of true b e = let z : _≡_ {A = ℕ} 0 1 = cc in absurd (omega arith)
+neither-of false b e = (refl, e)
+
+pub in-its-range : (low high x : ℕ) → outside low high x ≡ false → (low ≤ x) × (x ≤ high)
+in-its-range low high x e = let h = neither-of _ _ e in (ltb-false x low (h .0), ltb-false high x (h .1))
+
+-- ---- 1, 2
+module _ (n l : ℕ) where
+  pub sizes-fire : {s : Refusal} {v : Verdict} (later : Verdict) → v ≡ sizesVerdict n l → v ≡ Refused s → v ≡ refuse (nodesOut n) Nodes (refuse (slotsOut l) Slots later)
+  unfolding sizesVerdict
+  sizes-fire later is fired = fired ∙ sym (still-fires _ _ (still-fires _ _ (λ e. absurd (never (sym e)))) (sym is ∙ fired))
+
+  pub sizes-pass : {v w later : Verdict} → v ≡ sizesVerdict n l → v ≡ Accepted → w ≡ later → w ≡ refuse (nodesOut n) Nodes (refuse (slotsOut l) Slots later)
+  unfolding sizesVerdict
+  sizes-pass is accepted e = still-passes _ _ (still-passes _ _ (λ _. e)) (sym is ∙ accepted)
+
+  pub in-sizes : {later : Verdict} → refuse (nodesOut n) Nodes (refuse (slotsOut l) Slots later) ≡ Accepted → Sizes n l × (later ≡ Accepted)
+  in-sizes e =
+      let a = passed _ _ _ e in
+      let b = passed _ _ _ (a .1) in
+      let nodes = in-its-range 1 64 n (a .0) in
+      let slots = in-its-range 1 1024 l (b .0) in
+      (record { some-nodes = nodes .0; nodes = nodes .1; some-slots = slots .0; slots = slots .1 }, b .1)
+
+  pub sized : {v : Verdict} → v ≡ sizesVerdict n l → v ≡ Accepted → Sizes n l
+  unfolding sizesVerdict
+  sized is accepted = in-sizes (sym is ∙ accepted) .0
 
 -- ---- where no demand is above 65,535, each is within its range
 pub within-range : (n : ℕ) (d : List ℕ) → n * n ≤ firstAbove n d → Demands n d

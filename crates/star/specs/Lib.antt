@@ -2,4 +2,5 @@
 pub mod Tables
 pub mod Lines
 pub mod Refusals
+pub mod Checks
 pub mod Schedules

@@ -1,4 +1,5 @@
 // Document 01's words, as every layer above uses them: tables of cells, lines and their slacks, what is refused.
+pub mod checks;
 pub mod lines;
 pub mod refusals;
 pub mod tables;

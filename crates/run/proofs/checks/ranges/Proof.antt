@@ -1,50 +1,49 @@
--- `ranges` meets its contract: the checks in their order, each passed before the next. Assumes nothing.
-use mathlib.Core.Path.{refl, sym, _∙_}
-use borrow.Author.Tests.{lt-ltb, le-ltb}
+-- `ranges` meets its contract: the shared checks, then its own, in their order. Assumes nothing.
+use mathlib.Core.Path.{sym, _∙_}
 use borrow.Author.Needs.{needs}
-use Rattle.star.proofs.RefusalLaws.{fires, passes}
+use borrow.Author.Tests.{lt-ltb, le-ltb}
+use Rattle.star.proofs.RefusalLaws.{fires, passes, sizes-fire, sizes-pass}
 use Rattle.run.specs.Checks.{rangesVerdict}
 use Rattle.run.proofs.checks.ranges.Statement.{statement}
 use Rattle.run.proofs.checks.ranges.Tie as tie
 
-outside-requires : tie.Need-outside-requires
-outside-requires c κs = search needs
+sizes-requires : tie.Need-sizes-requires
+sizes-requires c κs = search needs
+
+enum-told : tie.Need-enum-told
+enum-told c = search needs
+
+enum-told-2 : tie.Need-enum-told-2
+enum-told-2 c = search needs
 
 returns : tie.Need-returns
 unfolding rangesVerdict
-returns c = fires _ (sym (c .before .outside .ensures) ∙ c .if1 .taken)
-
-outside-requires-2 : tie.Need-outside-requires-2
-outside-requires-2 c κs = search needs
+returns c = let a = c .before .before .before .args in sizes-fire (a .nodes) (a .slots) _ (c .before .before .sizes .ensures) (c .enum-told2 .given .1)
 
 returns-2 : tie.Need-returns-2
 unfolding rangesVerdict
-returns-2 c = passes _ (sym (c .before .before .before .outside .ensures) ∙ c .before .before .if1 .left) (fires _ (sym (c .before .outside2 .ensures) ∙ c .if2 .taken))
+returns-2 c = let a = c .before .before .before .before .args in sizes-pass (a .nodes) (a .slots) (c .before .before .before .sizes .ensures) (c .before .enum-told .given .1) (fires _ (lt-ltb _ _ (c .if1 .taken)))
+
+outside-requires : tie.Need-outside-requires
+outside-requires c κs = search needs
 
 returns-3 : tie.Need-returns-3
 unfolding rangesVerdict
-returns-3 c = passes _ (sym (c .before .before .before .before .outside .ensures) ∙ c .before .before .before .if1 .left) (passes _ (sym (c .before .before .outside2 .ensures) ∙ c .before .if2 .left) (fires _ (lt-ltb _ _ (c .if3 .taken))))
-
-outside-requires-3 : tie.Need-outside-requires-3
-outside-requires-3 c κs = search needs
+returns-3 c = let a = c .before .before .before .before .before .before .args in sizes-pass (a .nodes) (a .slots) (c .before .before .before .before .before .sizes .ensures) (c .before .before .before .enum-told .given .1) (passes _ (le-ltb _ _ (c .before .before .if1 .left)) (fires _ (sym (c .before .outside .ensures) ∙ c .if2 .taken)))
 
 returns-4 : tie.Need-returns-4
 unfolding rangesVerdict
-returns-4 c = passes _ (sym (c .before .before .before .before .before .before .outside .ensures) ∙ c .before .before .before .before .before .if1 .left) (passes _ (sym (c .before .before .before .before .outside2 .ensures) ∙ c .before .before .before .if2 .left) (passes _ (le-ltb _ _ (c .before .before .if3 .left)) (fires _ (sym (c .before .outside3 .ensures) ∙ c .if4 .taken))))
-
-returns-5 : tie.Need-returns-5
-unfolding rangesVerdict
-returns-5 c = passes _ (sym (c .before .before .before .before .before .before .outside .ensures) ∙ c .before .before .before .before .before .if1 .left) (passes _ (sym (c .before .before .before .before .outside2 .ensures) ∙ c .before .before .before .if2 .left) (passes _ (le-ltb _ _ (c .before .before .if3 .left)) (passes _ (sym (c .before .outside3 .ensures) ∙ c .if4 .left) refl)))
+returns-4 c = let a = c .before .before .before .before .before .before .args in sizes-pass (a .nodes) (a .slots) (c .before .before .before .before .before .sizes .ensures) (c .before .before .before .enum-told .given .1) (passes _ (le-ltb _ _ (c .before .before .if1 .left)) (passes _ (sym (c .before .outside .ensures) ∙ c .if2 .left) (c .before .before .before .enum-told .given .1)))
 
 pub ranges-spec : {M : Type 1} → statement M
 ranges-spec =
     tie.close
     (tie.spec
-    outside-requires
+    sizes-requires
+    enum-told
+    enum-told-2
     returns
-    outside-requires-2
     returns-2
+    outside-requires
     returns-3
-    outside-requires-3
-    returns-4
-    returns-5)
+    returns-4)

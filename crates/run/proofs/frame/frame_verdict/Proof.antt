@@ -31,22 +31,22 @@ returns-2 : tie.Need-returns-2
 unfolding frameVerdict
 returns-2 c = let o = c .before .before .before .before .before .before .before .before .before .before .args .old in ranges-pass (o .nodes) (o .slots) (o .rule) (o .limit) (c .before .before .before .before .before .ranges .ensures) (c .before .before .before .enum-told .given .1) (fires _ (first-of _ _ (sym (c .before .short .ensures) ∙ c .if1 .taken)))
 
-cast-short-plan : tie.Need-cast-short-plan
-cast-short-plan c = search needs
+cast-plan-short : tie.Need-cast-plan-short
+cast-plan-short c = search needs
 
-short-plan-requires : tie.Need-short-plan-requires
-short-plan-requires c κs = let o = c .before .before .before .before .before .before .before .before .before .before .before .args .old in let g = ranged (o .nodes) (o .slots) (o .rule) (o .limit) (c .before .before .before .before .before .before .ranges .ensures) (c .before .before .before .before .enum-told .given .1) in (g .nodes, g .slots)
+plan-short-requires : tie.Need-plan-short-requires
+plan-short-requires c κs = let o = c .before .before .before .before .before .before .before .before .before .before .before .args .old in let g = ranged (o .nodes) (o .slots) (o .rule) (o .limit) (c .before .before .before .before .before .before .ranges .ensures) (c .before .before .before .before .enum-told .given .1) in (g .nodes, g .slots)
 
 returns-3 : tie.Need-returns-3
 unfolding frameVerdict
-returns-3 c = let o = c .before .before .before .before .before .before .before .before .before .before .before .before .before .args .old in ranges-pass (o .nodes) (o .slots) (o .rule) (o .limit) (c .before .before .before .before .before .before .before .before .ranges .ensures) (c .before .before .before .before .before .before .enum-told .given .1) (fires _ (second-of _ _ (sym (c .before .before .before .before .short .ensures) ∙ c .before .before .before .if1 .left) (sym (c .before .short-plan .ensures) ∙ c .if2 .taken)))
+returns-3 c = let o = c .before .before .before .before .before .before .before .before .before .before .before .before .before .args .old in ranges-pass (o .nodes) (o .slots) (o .rule) (o .limit) (c .before .before .before .before .before .before .before .before .ranges .ensures) (c .before .before .before .before .before .before .enum-told .given .1) (fires _ (second-of _ _ (sym (c .before .before .before .before .short .ensures) ∙ c .before .before .before .if1 .left) (sym (c .before .plan-short .ensures) ∙ c .if2 .taken)))
 
 books-requires : tie.Need-books-requires
 books-requires c κs = let a = c .before .before .before .before .before .before .before .before .before .before .before .before .before .args in let o = a .old in let g = ranged (o .nodes) (o .slots) (o .rule) (o .limit) (c .before .before .before .before .before .before .before .before .ranges .ensures) (c .before .before .before .before .before .before .enum-told .given .1) in long-tables (o .nodes) (a .waiting .now) (a .posted .now) (a .sent .now) (a .dropped .now) (g .nodes) (sym (c .before .before .before .before .short .ensures) ∙ c .before .before .before .if1 .left)
 
 returns-4 : tie.Need-returns-4
 unfolding frameVerdict booksVerdict
-returns-4 c = let o = c .before .before .before .before .before .before .before .before .before .before .before .before .before .before .args .old in ranges-pass (o .nodes) (o .slots) (o .rule) (o .limit) (c .before .before .before .before .before .before .before .before .before .ranges .ensures) (c .before .before .before .before .before .before .before .enum-told .given .1) (passes _ (neither _ _ (sym (c .before .before .before .before .before .short .ensures) ∙ c .before .before .before .before .if1 .left) (sym (c .before .before .short-plan .ensures) ∙ c .before .if2 .left)) (c .books .ensures))
+returns-4 c = let o = c .before .before .before .before .before .before .before .before .before .before .before .before .before .before .args .old in ranges-pass (o .nodes) (o .slots) (o .rule) (o .limit) (c .before .before .before .before .before .before .before .before .before .ranges .ensures) (c .before .before .before .before .before .before .before .enum-told .given .1) (passes _ (neither _ _ (sym (c .before .before .before .before .before .short .ensures) ∙ c .before .before .before .before .if1 .left) (sym (c .before .before .plan-short .ensures) ∙ c .before .if2 .left)) (c .books .ensures))
 
 pub frame-verdict-spec : {M : Type 1} → statement M
 frame-verdict-spec =
@@ -59,8 +59,8 @@ frame-verdict-spec =
     cast-n
     short-requires
     returns-2
-    cast-short-plan
-    short-plan-requires
+    cast-plan-short
+    plan-short-requires
     returns-3
     books-requires
     returns-4)

@@ -2,9 +2,9 @@
 use native.Mathlib.Omega.{arith}
 use mathlib.Core.Path.{sym}
 use borrow.Author.Tests.{le-ltb}
 use Rattle.star.proofs.RefusalLaws.{too-low}
-use Rattle.run.proofs.checks.outside.Statement.{statement}
-use Rattle.run.proofs.checks.outside.Tie as tie
+use Rattle.star.proofs.checks.outside.Statement.{statement}
+use Rattle.star.proofs.checks.outside.Tie as tie
 
 returns : tie.Need-returns
 returns c = let a = c .before .args in sym (too-low (a .low) (a .high) (a .x) (omega arith))

@@ -1,0 +1,2 @@
+-- The laws of the entry's verdict.
+pub mod SlackLaws
