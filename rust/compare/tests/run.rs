@@ -33,7 +33,7 @@ impl Given {
 fn random_runs() {
     let mut random = Random::announced();
     let mut given = Given::default();
-    for _ in 0..3_000 {
+    for _ in 0..8_000 {
         play(&mut random, &mut given);
     }
     println!("answers by number: {given:?}");
@@ -105,7 +105,7 @@ fn random_state(random: &mut Random, n: usize, slots: u32) -> State {
         let longer = random.pick(&[0, 1, 9]);
         random.words(cells + longer)
     };
-    let wide = |words: Vec<u32>| words.iter().map(|&v| u64::from(v) << 11).collect();
+    let wide = |words: Vec<u32>| words.iter().map(|&v| u64::from(v) << 32 | 7).collect();
     let record = words(6);
     State {
         record: Record {
@@ -130,7 +130,7 @@ fn random_state(random: &mut Random, n: usize, slots: u32) -> State {
     }
 }
 
-/// A post or a frame, seldom a new start. Some posts have bad arrivals, most starts bad values.
+/// A post or a frame, seldom a new start. Some posts have bad arrivals, many starts bad values.
 fn random_call(random: &mut Random, n: usize, slots: u32) -> Call {
     match random.below(40) {
         0 | 1 => {
@@ -150,7 +150,7 @@ fn random_arrivals(random: &mut Random, n: usize, slots: u32) -> Vec<u32> {
     match random.below(24) {
         0 => arrivals.truncate(random.below(n * n)),
         1 => {
-            let any = random.word() as u32 | DEMAND + 1;
+            let any = random.word() as u32 | (DEMAND + 1);
             arrivals[random.below(n * n)] = random.pick(&[DEMAND + 1, 131_071, u32::MAX, any]);
         }
         2..8 => arrivals.extend([DEMAND + 1, u32::MAX]),
