@@ -25,14 +25,25 @@
  *
  * What the caller must keep, and there is nothing else:
  *
- *   - each pointer is valid for as many cells as are given with it, *place for one, a report for
- *     four, and is not NULL, also where the number of cells is 0;
+ *   - each pointer is valid for as many cells as are given with it, that of a report for four, that
+ *     of a record or a place for one, and none is NULL, also where the number of cells is 0;
  *   - each pointer is aligned as its type asks;
- *   - no two tables overlap, nor does one hold the record, *place or the report;
+ *   - no two tables overlap, nor does one overlap the record, *place or the report;
  *   - during a call nobody else writes to what is lent, nor reads what the call writes.
  *
  * An entry keeps nothing between calls, takes no memory but its stack, and may be called from
- * several threads at once on tables of their own. */
+ * several threads at once on tables of their own.
+ *
+ * The stack that a call needs, measured on x86-64 at N 64 and L 1024 over many families of demands,
+ * rounded up, in bytes:
+ *
+ *   slacks          700
+ *   fresh, post     250
+ *   plan, frame   18400 under the fair rule, 46500 under the least
+ *
+ * The least rule follows chains of lines, 224 bytes for each line. The longest chain that was
+ * measured has 126 lines and none has more than 128, so 48 KiB are enough for every entry. A program
+ * that binds symbols lazily may take 4 KiB more when memset or memcpy is called first. */
 
 #ifndef GYODAEBEUN_H
 #define GYODAEBEUN_H

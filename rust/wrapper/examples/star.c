@@ -114,7 +114,7 @@ static void post(struct gyodaebeun_run *run, const uint32_t *arrivals, struct bo
     expect_accepted(number, place);
 }
 
-static void send(struct gyodaebeun_run *run, struct books *books, struct frame *frame)
+static void send_frame(struct gyodaebeun_run *run, struct books *books, struct frame *frame)
 {
     uint32_t number = gyodaebeun_frame(run, books->waiting, PAIRS, books->posted, PAIRS,
                                        books->sent, PAIRS, books->dropped, PAIRS,
@@ -135,7 +135,7 @@ static void play(struct frame *frame)
     start(&run, &books);
     for (int event = 0; event < 3; event++) {
         post(&run, posts[event], &books);
-        send(&run, &books, frame);
+        send_frame(&run, &books, frame);
         report("frame", frame);
         print_rows(books.waiting);
     }
