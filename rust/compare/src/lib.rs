@@ -1,5 +1,7 @@
 //! What the comparisons share: lent tables whose surroundings are watched, answers that both
-//! programs give in their own words, and stars for the inner layers.
+//! programs give in their own words, stars for the inner layers, and the parties to a run.
+
+pub mod run;
 
 use second::inputs::{FAMILIES, Random};
 use second::matrix::Matrix;

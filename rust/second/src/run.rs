@@ -133,6 +133,16 @@ pub fn frame(
     books: &mut Books,
     written: &mut Written,
 ) -> Result<Totals, Refusal> {
+    check_frame(record, books, written)?;
+    let demand = Matrix::read(record.nodes as usize, &books.waiting);
+    let plan = Plan::new(&demand, record.slots as usize, record.rule);
+    written.write(&plan);
+    send(record, books, &plan.kept);
+    Ok(plan.totals(&demand))
+}
+
+/// The refusal of a frame, if it gets one.
+pub fn check_frame(record: &Record, books: &Books, written: &Written) -> Result<(), Refusal> {
     let call = Call {
         values: *record,
         tables: [books.tables(), written.tables()].concat(),
@@ -140,14 +150,15 @@ pub fn frame(
         accepted: record.frames,
         ..Call::default()
     };
-    call.check(refusal::FRAME)?;
-    let demand = Matrix::read(record.nodes as usize, &books.waiting);
-    let plan = Plan::new(&demand, record.slots as usize, record.rule);
-    written.write(&plan);
-    demand.minus(&plan.kept).write(&mut books.waiting);
-    for (cell, pair) in demand.pairs().enumerate() {
-        books.sent[cell] += plan.kept.at(pair) as u64;
+    call.check(refusal::FRAME)
+}
+
+/// What an accepted frame that keeps this changes in the record and the books.
+pub fn send(record: &mut Record, books: &mut Books, kept: &Matrix) {
+    let demand = Matrix::read(kept.nodes(), &books.waiting);
+    demand.minus(kept).write(&mut books.waiting);
+    for (cell, pair) in kept.pairs().enumerate() {
+        books.sent[cell] += kept.at(pair) as u64;
     }
     record.frames += 1;
-    Ok(plan.totals(&demand))
 }

@@ -2,22 +2,73 @@
 //! of L slots. A call is accepted, or refused with a [`Refusal`] and then nothing is written.
 //!
 //! Matrices are row-major: pair (i,j), source i to destination j, is cell i×N+j. A longer table
-//! than needed is accepted; its extra cells are neither read nor changed.
+//! than needed is accepted; its extra cells are neither read nor changed. All tables are the
+//! caller's, and so is the record of a run. A call takes no other memory than its stack, of which
+//! 48 KiB are enough on x86-64 (`gyodaebeun.h` has what was measured).
+//!
+//! One frame, planned under the least rule: of 12 slots asked, the frame carries 10.
+//!
+//! ```
+//! let demand = [11, 1, 0, 0];
+//! let (mut kept, mut withdrawn, mut schedule) = ([0; 4], [0; 4], [0; 20]);
+//! let plan = gyodaebeun::plan(2, 10, 1, &demand, &mut kept, &mut withdrawn, &mut schedule)?;
+//! assert_eq!((plan.kept, plan.refused), (10, 2));
+//! assert_eq!(kept, [9, 1, 0, 0]);
+//! let idle = schedule.iter().filter(|&&source| source == 255);
+//! assert_eq!(idle.count(), 10);
+//! # Ok::<(), gyodaebeun::Refusal>(())
+//! ```
+//!
+//! A run: what does not fit into a frame waits for the next, as far as the queue limit allows.
+//!
+//! ```
+//! use gyodaebeun::{Books, Run};
+//!
+//! let mut books = Books {
+//!     waiting: &mut [0],
+//!     posted: &mut [0],
+//!     sent: &mut [0],
+//!     dropped: &mut [0],
+//! };
+//! let (mut kept, mut withdrawn, mut schedule) = ([0], [0], [0; 4]);
+//! let mut run = Run::default();
+//! run.fresh(1, 4, 6, 1, &mut books)?;
+//! for arrivals in [[10], [3]] {
+//!     run.post(&arrivals, &mut books)?;
+//!     let frame = run.frame(&mut books, &mut kept, &mut withdrawn, &mut schedule)?;
+//!     assert_eq!(frame.kept, 4);
+//! }
+//! assert_eq!((books.posted[0], books.sent[0]), (13, 8));
+//! assert_eq!((books.dropped[0], books.waiting[0]), (4, 1));
+//! # Ok::<(), gyodaebeun::Refusal>(())
+//! ```
+//!
+//! A refusal says why, and where.
+//!
+//! ```
+//! let refusal = gyodaebeun::slacks(1, 4, &[65_536], &mut [0; 2]).unwrap_err();
+//! assert_eq!((refusal.number(), refusal.place()), (6, 0));
+//! ```
 
 mod refusal;
+mod run;
 
 pub mod raw;
 
 pub use refusal::Refusal;
+pub use run::{Books, Run};
+
+// Where the library is called, here and in `run`, each pointer comes with the length of the slice
+// that it was taken from, and no two slices overlap, since all but the read ones are exclusive.
 
 /// The slack of each line, L minus the line's sum, into the first 2N cells of `slacks`: the rows,
 /// then the columns. A line overflows where its slack is negative.
 ///
 /// `demand` holds N×N cells. Refused, in this order, by [`Refusal::Nodes`], [`Refusal::Slots`],
-/// [`Refusal::DemandShort`], [`Refusal::TableShort`] and [`Refusal::DemandAbove`].
+/// [`Refusal::DemandShort`], [`Refusal::TableShort`] and [`Refusal::DemandAbove`]; then nothing is
+/// written.
 pub fn slacks(nodes: u32, slots: u32, demand: &[u32], slacks: &mut [i32]) -> Result<(), Refusal> {
     let mut place = 0;
-    // Each pointer comes with the length of the slice it was taken from; so in every call here.
     let number = unsafe {
         raw::gyodaebeun_slacks(
             nodes,
@@ -32,7 +83,7 @@ pub fn slacks(nodes: u32, slots: u32, demand: &[u32], slacks: &mut [i32]) -> Res
     Refusal::given(number, place)
 }
 
-/// What a plan reports beside its tables.
+/// What a plan or a frame reports beside its tables.
 #[derive(Clone, Copy, Debug, PartialEq, Eq)]
 pub struct Plan {
     /// The slots that all pairs keep.
@@ -43,14 +94,26 @@ pub struct Plan {
     pub reconfigurations: u32,
 }
 
+impl Plan {
+    /// The answer of a call that returned this number and stored this report.
+    fn given(number: u32, report: [u32; 4]) -> Result<Plan, Refusal> {
+        let [place, kept, refused, reconfigurations] = report;
+        Refusal::given(number, place).map(|()| Plan {
+            kept,
+            refused,
+            reconfigurations,
+        })
+    }
+}
+
 /// The slots that each pair keeps under a rule, 0 fair or 1 least, into the first N×N cells of
-/// `kept`, what the least rule withdrew into those of `withdrawn`, and how a frame carries what is
-/// kept into the first L×N bytes of `schedule`: slot k, destination j at k×N+j holds the source, or
-/// 255 for idle.
+/// `kept`, what the least rule withdrew into those of `withdrawn`, zeros under the fair rule, and
+/// how a frame carries what is kept into the first L×N bytes of `schedule`: slot k, destination j at
+/// k×N+j holds the source, or 255 for idle.
 ///
 /// `demand` holds N×N cells. Refused, in this order, by [`Refusal::Nodes`], [`Refusal::Slots`],
 /// [`Refusal::Rule`], [`Refusal::DemandShort`], [`Refusal::TableShort`] and
-/// [`Refusal::DemandAbove`].
+/// [`Refusal::DemandAbove`]; then nothing is written.
 pub fn plan(
     nodes: u32,
     slots: u32,
@@ -77,10 +140,5 @@ pub fn plan(
             &mut report,
         )
     };
-    let [place, kept, refused, reconfigurations] = report;
-    Refusal::given(number, place).map(|()| Plan {
-        kept,
-        refused,
-        reconfigurations,
-    })
+    Plan::given(number, report)
 }

@@ -75,7 +75,9 @@ impl fmt::Display for Refusal {
             Refusal::Rule => f.write_str("the rule is neither 0 nor 1"),
             Refusal::DemandShort => f.write_str("demand or arrivals lack cells"),
             Refusal::TableShort => f.write_str("a table is too short"),
-            Refusal::DemandAbove { cell } => write!(f, "the demand of cell {cell} is above 65535"),
+            Refusal::DemandAbove { cell } => {
+                write!(f, "the demand or arrival of cell {cell} is above 65535")
+            }
             Refusal::QueueLimit => f.write_str("the queue limit is not 1 to 65535"),
             Refusal::BooksDisagree { cell } => write!(f, "the books of cell {cell} disagree"),
             Refusal::CallsSpent => f.write_str("this call was accepted 1000000 times already"),

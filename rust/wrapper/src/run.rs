@@ -1,0 +1,166 @@
+use crate::{Plan, Refusal, raw};
+
+/// The record of a run. [`Run::fresh`] fills it; [`Run::post`] and [`Run::frame`] check the values
+/// they find in it and use them. A caller may store it, with the four tables of [`Books`], and go
+/// on later.
+#[repr(C)]
+#[derive(Clone, Copy, Debug, Default, PartialEq, Eq)]
+pub struct Run {
+    /// N, from 1 to 64.
+    pub nodes: u32,
+    /// L, from 1 to 1,024.
+    pub slots: u32,
+    /// B: how many slots of one pair may wait, from 1 to 65,535.
+    pub limit: u32,
+    /// 0 fair, 1 least.
+    pub rule: u32,
+    /// How many posts were accepted.
+    pub posts: u32,
+    /// How many frames were accepted.
+    pub frames: u32,
+}
+
+/// The four tables of a run, each of N×N cells or more; a cell counts slots of its pair.
+///
+/// The books of a pair agree when `waiting` is at most B, `posted` equals `waiting` plus `sent` plus
+/// `dropped`, and `posted` is at most 65,535 times the posts accepted. [`Run::fresh`] makes them
+/// agree, and accepted calls keep them so.
+#[derive(Debug, PartialEq, Eq)]
+pub struct Books<'a> {
+    /// What has been posted and neither sent nor dropped: the queues.
+    pub waiting: &'a mut [u32],
+    /// What was asked for by all posts.
+    pub posted: &'a mut [u64],
+    /// What all frames carried.
+    pub sent: &'a mut [u64],
+    /// What found its queue full.
+    pub dropped: &'a mut [u64],
+}
+
+impl Run {
+    /// Starts a run: N, L, B and the rule go into the record, both counts become 0, and so do the
+    /// first N×N cells of the four tables. What the record and the tables held before does not
+    /// matter.
+    ///
+    /// Refused, in this order, by [`Refusal::Nodes`], [`Refusal::Slots`], [`Refusal::Rule`],
+    /// [`Refusal::QueueLimit`] and [`Refusal::TableShort`]; then neither the record nor a table is
+    /// changed.
+    pub fn fresh(
+        &mut self,
+        nodes: u32,
+        slots: u32,
+        limit: u32,
+        rule: u32,
+        books: &mut Books<'_>,
+    ) -> Result<(), Refusal> {
+        let mut place = 0;
+        let number = unsafe {
+            raw::gyodaebeun_fresh(
+                self,
+                nodes,
+                slots,
+                limit,
+                rule,
+                books.waiting.as_mut_ptr(),
+                books.waiting.len(),
+                books.posted.as_mut_ptr(),
+                books.posted.len(),
+                books.sent.as_mut_ptr(),
+                books.sent.len(),
+                books.dropped.as_mut_ptr(),
+                books.dropped.len(),
+                &mut place,
+            )
+        };
+        Refusal::given(number, place)
+    }
+
+    /// Posts arrivals, N×N cells: each is added to `posted`, what would lift `waiting` above B to
+    /// `dropped`, the rest to `waiting`; `posts` rises by 1. `sent` is only read.
+    ///
+    /// Refused, in this order, by [`Refusal::Nodes`], [`Refusal::Slots`], [`Refusal::Rule`] and
+    /// [`Refusal::QueueLimit`] for what the record holds, [`Refusal::DemandShort`],
+    /// [`Refusal::TableShort`], [`Refusal::BooksDisagree`], [`Refusal::CallsSpent`] after 1,000,000
+    /// posts, and [`Refusal::DemandAbove`]; then neither the record nor a table is changed.
+    pub fn post(&mut self, arrivals: &[u32], books: &mut Books<'_>) -> Result<(), Refusal> {
+        let mut place = 0;
+        let number = unsafe {
+            raw::gyodaebeun_post(
+                self,
+                arrivals.as_ptr(),
+                arrivals.len(),
+                books.waiting.as_mut_ptr(),
+                books.waiting.len(),
+                books.posted.as_mut_ptr(),
+                books.posted.len(),
+                books.sent.as_ptr(),
+                books.sent.len(),
+                books.dropped.as_mut_ptr(),
+                books.dropped.len(),
+                &mut place,
+            )
+        };
+        Refusal::given(number, place)
+    }
+
+    /// Plans a frame with what is waiting as the demand and sends it: writes `kept`, `withdrawn` and
+    /// `schedule` as [`plan`](crate::plan) does, takes what is kept from `waiting` and adds it to
+    /// `sent`; `frames` rises by 1. `posted` and `dropped` are only read. A frame over empty queues
+    /// is accepted.
+    ///
+    /// Refused, in this order, by [`Refusal::Nodes`], [`Refusal::Slots`], [`Refusal::Rule`] and
+    /// [`Refusal::QueueLimit`] for what the record holds, [`Refusal::TableShort`] for any of the
+    /// seven tables, [`Refusal::BooksDisagree`], and [`Refusal::CallsSpent`] after 1,000,000 frames;
+    /// then neither the record nor a table is changed.
+    pub fn frame(
+        &mut self,
+        books: &mut Books<'_>,
+        kept: &mut [u32],
+        withdrawn: &mut [u32],
+        schedule: &mut [u8],
+    ) -> Result<Plan, Refusal> {
+        let mut report = [0; 4];
+        let number = unsafe {
+            raw::gyodaebeun_frame(
+                self,
+                books.waiting.as_mut_ptr(),
+                books.waiting.len(),
+                books.posted.as_ptr(),
+                books.posted.len(),
+                books.sent.as_mut_ptr(),
+                books.sent.len(),
+                books.dropped.as_ptr(),
+                books.dropped.len(),
+                kept.as_mut_ptr(),
+                kept.len(),
+                withdrawn.as_mut_ptr(),
+                withdrawn.len(),
+                schedule.as_mut_ptr(),
+                schedule.len(),
+                &mut report,
+            )
+        };
+        Plan::given(number, report)
+    }
+}
+
+#[cfg(test)]
+mod tests {
+    use super::Run;
+
+    /// The library takes the record as six 32-bit numbers in this order.
+    #[test]
+    fn a_record_is_six_numbers_in_a_row() {
+        let run = Run {
+            nodes: 1,
+            slots: 2,
+            limit: 3,
+            rule: 4,
+            posts: 5,
+            frames: 6,
+        };
+        assert_eq!(align_of::<Run>(), align_of::<[u32; 6]>());
+        let numbers: [u32; 6] = unsafe { std::mem::transmute(run) };
+        assert_eq!(numbers, [1, 2, 3, 4, 5, 6]);
+    }
+}
