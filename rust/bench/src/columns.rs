@@ -17,6 +17,7 @@ pub struct Work {
     slots: usize,
     demand: Vec<u32>,
     capacity: Vec<u32>,
+    withdrawn: Vec<u32>,
     marks: Vec<u8>,
     least: Written,
     fair: Written,
@@ -47,6 +48,7 @@ impl Work {
         Work {
             n,
             slots: slots as usize,
+            withdrawn: vec![0; n * n],
             marks: vec![0; 2 * n],
             least: tables(n, slots),
             fair: tables(n, slots),
@@ -60,16 +62,17 @@ impl Work {
         }
     }
 
-    /// Whether what each program withdrew is a withdrawn matrix and has the same total, once the
-    /// columns of [`FLOW`] were called.
-    pub fn flows_agree(&self) -> bool {
-        let second = &self.second;
-        let agrees = |table: &[u32]| {
-            let a = Matrix::read(self.n, table);
-            least::is_withdrawn(&second.demand, &second.capacity, &a)
-                && a.total() == second.withdrawn.total()
-        };
-        agrees(&self.least.withdrawn) && (!lemon::INSTALLED || agrees(&self.lemon.withdrawn))
+    /// Whether what the library and LEMON withdrew is greatest, and so of the same total; the second
+    /// program judges. Asked once all columns of [`FLOW`] and [`PLAN`] were called.
+    pub fn flows_are_greatest(&self) -> bool {
+        let Second {
+            demand, capacity, ..
+        } = &self.second;
+        let is_greatest =
+            |table: &[u32]| least::is_greatest(demand, capacity, &Matrix::read(self.n, table));
+        is_greatest(&self.withdrawn)
+            && is_greatest(&self.least.withdrawn)
+            && (!lemon::INSTALLED || is_greatest(&self.lemon.withdrawn))
     }
 }
 
@@ -96,53 +99,50 @@ fn tables(n: usize, slots: u32) -> Written {
     }
 }
 
-type Call = fn(&mut Work);
+/// Whose time a column shows.
+#[derive(Clone, Copy, PartialEq, Eq)]
+pub enum Program {
+    Library,
+    Second,
+    Lemon,
+}
 
-/// What is called, and how often of which the fastest counts.
+impl Program {
+    /// How often it is called; not at all where it is not installed.
+    fn calls(self) -> usize {
+        match self {
+            Program::Library => 5,
+            Program::Second => 1,
+            Program::Lemon if lemon::INSTALLED => 5,
+            Program::Lemon => 0,
+        }
+    }
+}
+
+/// A program, and what of it is called.
 pub struct Column {
+    pub program: Program,
     pub title: &'static str,
-    installed: bool,
-    calls: usize,
-    call: Call,
+    call: fn(&mut Work),
 }
 
 impl Column {
-    const fn library(title: &'static str, call: Call) -> Column {
+    const fn new(program: Program, title: &'static str, call: fn(&mut Work)) -> Column {
         Column {
+            program,
             title,
-            installed: true,
-            calls: 5,
             call,
         }
     }
 
-    const fn second(title: &'static str, call: Call) -> Column {
-        Column {
-            title,
-            installed: true,
-            calls: 1,
-            call,
-        }
-    }
-
-    const fn lemon(title: &'static str, call: Call) -> Column {
-        Column {
-            title,
-            installed: lemon::INSTALLED,
-            calls: 5,
-            call,
-        }
-    }
-
-    /// None where the program is not installed.
+    /// The fastest call; none where the program is not installed.
     pub fn microseconds(&self, work: &mut Work) -> Option<f64> {
         let time = |_| {
             let start = Instant::now();
             (self.call)(work);
             start.elapsed().as_secs_f64() * 1e6
         };
-        let calls = if self.installed { self.calls } else { 0 };
-        (0..calls).map(time).min_by(f64::total_cmp)
+        (0..self.program.calls()).map(time).min_by(f64::total_cmp)
     }
 }
 
@@ -150,22 +150,22 @@ impl Column {
 /// `Preflow` alone, its start and both its phases, on a graph made beforehand; its second is from
 /// table to table as in the library, the graph made and freed.
 pub const FLOW: [Column; 4] = [
-    Column::library("library", |w| {
-        let (withdrawn, marks) = (&mut w.least.withdrawn, &mut w.marks);
+    Column::new(Program::Library, "library", |w| {
+        let (withdrawn, marks) = (&mut w.withdrawn, &mut w.marks);
         lab::withdraw(w.n, &w.capacity, &w.demand, withdrawn, marks);
     }),
-    Column::second("second", |w| {
+    Column::new(Program::Second, "second", |w| {
         let Second {
             demand, capacity, ..
         } = &w.second;
         w.second.withdrawn = least::withdrawn(demand, capacity);
     }),
-    Column::lemon("LEMON Preflow", |w| {
+    Column::new(Program::Lemon, "LEMON Preflow", |w| {
         if let Some(graph) = &mut w.lemon.graph {
             graph.run();
         }
     }),
-    Column::lemon("LEMON with graph", |w| {
+    Column::new(Program::Lemon, "LEMON with graph", |w| {
         if let Some(mut graph) = Network::new(w.n, &w.capacity, &w.demand) {
             graph.withdraw(&mut w.lemon.withdrawn);
         }
@@ -174,56 +174,54 @@ pub const FLOW: [Column; 4] = [
 
 /// From the demands, and for the least rule what was withdrawn, to the kept matrix.
 pub const KEPT: [Column; 4] = [
-    Column::library("least, library", |w| {
-        let Written {
-            withdrawn, kept, ..
-        } = &mut w.least;
+    Column::new(Program::Library, "least, library", |w| {
+        let kept = &mut w.least.kept;
         // The table before found what is withdrawn.
-        unsafe { lab::keep(w.n, &w.capacity, &w.demand, withdrawn, kept) };
+        unsafe { lab::keep(w.n, &w.capacity, &w.demand, &w.withdrawn, kept) };
     }),
-    Column::second("least, second", |w| {
+    Column::new(Program::Second, "least, second", |w| {
         let Second {
             demand, capacity, ..
         } = &w.second;
         w.second.least = least::kept_from(demand, capacity, &w.second.withdrawn);
     }),
-    Column::library("fair, library", |w| {
+    Column::new(Program::Library, "fair, library", |w| {
         lab::fair_cut(w.n, &w.capacity, &w.demand, &mut w.fair.kept);
     }),
-    Column::second("fair, second", |w| {
+    Column::new(Program::Second, "fair, second", |w| {
         w.second.fair = fair::kept(&w.second.demand, &w.second.capacity);
     }),
 ];
 
 /// From the kept matrix to a schedule; and, of the least rule's, the count of reconfigurations.
 pub const PLACEMENT: [Column; 5] = [
-    Column::library("least, library", |w| {
+    Column::new(Program::Library, "least, library", |w| {
         lab::place(w.n, w.slots, &w.least.kept, &mut w.least.schedule);
     }),
-    Column::second("least, second", |w| {
+    Column::new(Program::Second, "least, second", |w| {
         w.second.schedule = schedule::place(&w.second.least, w.slots);
     }),
-    Column::library("fair, library", |w| {
+    Column::new(Program::Library, "fair, library", |w| {
         lab::place(w.n, w.slots, &w.fair.kept, &mut w.fair.schedule);
     }),
-    Column::second("fair, second", |w| {
+    Column::new(Program::Second, "fair, second", |w| {
         w.second.schedule = schedule::place(&w.second.fair, w.slots);
     }),
-    Column::library("count, library", |w| {
+    Column::new(Program::Library, "count, library", |w| {
         lab::reconfigurations(w.n, w.slots, &w.least.schedule);
     }),
 ];
 
 /// The entry `plan`: its checks, the steps above, and the count of reconfigurations.
 pub const PLAN: [Column; 4] = [
-    Column::library("least, library", |w| {
+    Column::new(Program::Library, "least, library", |w| {
         plan(w.n, w.slots, LEAST, &w.demand, &mut w.least);
     }),
-    Column::second("least, second", |w| plan_second(w, LEAST)),
-    Column::library("fair, library", |w| {
+    Column::new(Program::Second, "least, second", |w| plan_second(w, LEAST)),
+    Column::new(Program::Library, "fair, library", |w| {
         plan(w.n, w.slots, FAIR, &w.demand, &mut w.fair);
     }),
-    Column::second("fair, second", |w| plan_second(w, FAIR)),
+    Column::new(Program::Second, "fair, second", |w| plan_second(w, FAIR)),
 ];
 
 fn plan(n: usize, slots: usize, rule: u32, demand: &[u32], written: &mut Written) {
@@ -244,12 +242,12 @@ fn plan_second(w: &mut Work, rule: u32) {
 
 pub type Count = fn(&Work) -> usize;
 
-/// Reconfigurations of the library's schedules, and the fewest that any schedule could have.
+/// Reconfigurations of the library's schedules, and a bound that no schedule stays below.
 pub const CHANGES: [(&str, Count); 4] = [
     ("least, library", |w| changes(w, &w.least)),
-    ("least, fewest", |w| fewest(w, &w.least)),
+    ("least, bound", |w| fewest(w, &w.least)),
     ("fair, library", |w| changes(w, &w.fair)),
-    ("fair, fewest", |w| fewest(w, &w.fair)),
+    ("fair, bound", |w| fewest(w, &w.fair)),
 ];
 
 fn changes(w: &Work, written: &Written) -> usize {

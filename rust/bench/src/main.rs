@@ -10,7 +10,7 @@ mod columns;
 mod figures;
 mod lemon;
 
-use columns::{CHANGES, Column, Count, FLOW, KEPT, PLACEMENT, PLAN, Work};
+use columns::{CHANGES, Column, Count, FLOW, KEPT, PLACEMENT, PLAN, Program, Work};
 use figures::{Figures, print_header, print_row};
 use second::inputs::{FAMILIES, Family, Random};
 
@@ -21,7 +21,7 @@ const DEMANDS: usize = 11;
 
 /// The flow comes first: the rest reads what it wrote.
 const STEPS: [(&str, &[Column]); 4] = [
-    ("flow, with the same total from every program", &FLOW),
+    ("flow", &FLOW),
     ("kept", &KEPT),
     ("placement", &PLACEMENT),
     ("the whole plan", &PLAN),
@@ -35,9 +35,17 @@ fn main() {
         "seed {SEED}, {DEMANDS} demands of each family; median and worst, times in microseconds"
     );
     let mut families = by_family(64, 1_024);
-    print_times("N 64, L 1,024", "family", &mut families);
+    print_times("N 64, L 1,024", "family", &mut families, |_| true);
     print_changes("N 64, L 1,024", "family", &families);
-    print_times("all families", "N, L", &mut by_size());
+    let mut sizes = by_size();
+    let quick = |column: &Column| column.program != Program::Second;
+    print_times("all families", "N, L", &mut sizes, quick);
+    let mut works = families.iter().chain(&sizes).flat_map(|row| &row.1);
+    assert!(
+        works.all(Work::flows_are_greatest),
+        "a flow is not greatest"
+    );
+    println!("\non every demand each flow was judged greatest by the second program");
 }
 
 fn by_family(n: usize, slots: u32) -> Vec<Row> {
@@ -70,21 +78,21 @@ fn works(random: &mut Random, family: Family, n: usize, slots: u32) -> Vec<Work>
     (0..DEMANDS).map(work).collect()
 }
 
-/// One table for each step.
-fn print_times(which: &str, named: &str, rows: &mut [Row]) {
+/// One table for each step, with those of its columns that are to be shown.
+fn print_times(which: &str, named: &str, rows: &mut [Row], shown: fn(&Column) -> bool) {
     for (step, columns) in STEPS {
+        let columns = || columns.iter().filter(|column| shown(column));
         println!("\n{which}: {step}");
-        print_header(named, columns.iter().map(|column| column.title));
+        print_header(named, columns().map(|column| column.title));
         for (name, works) in &mut *rows {
-            print_row(name, columns.iter().map(|column| timed(column, works)), 1);
-            assert!(works.iter().all(Work::flows_agree), "the flows differ");
+            print_row(name, columns().map(|column| timed(column, works)), 1);
         }
     }
 }
 
 /// The reconfigurations of what was planned.
 fn print_changes(which: &str, named: &str, rows: &[Row]) {
-    println!("\n{which}: reconfigurations, and the fewest that any schedule could have");
+    println!("\n{which}: reconfigurations, and a bound that no schedule stays below");
     print_header(named, CHANGES.iter().map(|&(title, _)| title));
     for (name, works) in rows {
         let counted = |count: Count| {
