@@ -4,9 +4,9 @@
 //
 // Lines that do not overflow and pairs that ask for nothing get no node and no arc. Of LEMON's
 // graphs StaticDigraph is used, on which Preflow was quicker than on SmartDigraph or ListDigraph.
-// It also matters in which order Preflow meets the arcs of a row. Here the last column comes first,
-// as it would in those two graphs if arcs were added in row order; the other way round banded
-// demands were quicker, but a staircase took thirty times as long.
+// Its time depends on the order in which it meets the arcs of a row. Here the last column comes
+// first, as it does in those two graphs when arcs are added in row order. The other way round
+// banded demands were quicker, most others slower, and a staircase took many times as long.
 
 // Nothing of LEMON is then linked: what is used stands in its headers.
 #define LEMON_ONLY_TEMPLATES
@@ -81,7 +81,7 @@ class Network {
     ends.reserve(n * n + 2 * n);
     most.reserve(n * n + 2 * n);
     cells.reserve(n * n);
-    for (std::size_t i = n; i-- > 0;)
+    for (std::size_t i = 0; i < n; ++i)
       if (nodes[i] != 0)
         add_arc(SOURCE, nodes[i], excesses[i]);
     first_pair = static_cast<int>(ends.size());
