@@ -7,26 +7,30 @@ pub struct Figures {
 }
 
 impl Figures {
-    pub fn of(measured: impl Iterator<Item = f64>) -> Figures {
-        let mut sorted: Vec<f64> = measured.collect();
-        sorted.sort_by(f64::total_cmp);
+    pub fn of(mut measured: Vec<f64>) -> Figures {
+        measured.sort_by(f64::total_cmp);
         Figures {
-            median: sorted[sorted.len() / 2],
-            worst: *sorted.last().expect("something was measured"),
+            median: measured[measured.len() / 2],
+            worst: *measured.last().expect("something was measured"),
         }
     }
 }
 
 pub fn print_header<'a>(rows: &str, columns: impl Iterator<Item = &'a str>) {
     let columns: String = columns.map(|title| format!("{title:>20}")).collect();
-    println!("{rows:<14}{columns}");
+    println!("{rows:<22}{columns}");
 }
 
-/// With as many decimals for every figure.
-pub fn print_row(name: &str, figures: impl Iterator<Item = Figures>, decimals: usize) {
-    print!("{name:<14}");
-    for Figures { median, worst } in figures {
-        print!("{median:>10.decimals$}{worst:>10.decimals$}");
+/// With as many decimals for every figure. What could not be measured is not installed.
+pub fn print_row(name: &str, figures: impl Iterator<Item = Option<Figures>>, decimals: usize) {
+    print!("{name:<22}");
+    for figures in figures {
+        match figures {
+            Some(Figures { median, worst }) => {
+                print!("{median:>10.decimals$}{worst:>10.decimals$}");
+            }
+            None => print!("{:>20}", "not installed"),
+        }
     }
     println!();
 }
