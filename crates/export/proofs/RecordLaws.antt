@@ -5,8 +5,8 @@ use mathlib.Core.List.{List}
 use Rattle.star.specs.declared.refusals.Verdict.{Verdict}
 use Rattle.planner.specs.declared.answers.Answer.{Answer}
 use Rattle.planner.specs.Plans.{verdictOf}
-use Rattle.run.specs.declared.record.Run.{Run}
-use Rattle.run.specs.Runs.{Freshened, freshRun, Posted, postRun, Framed, frameRun}
+use Rattle.calls.specs.declared.record.Run.{Run}
+use Rattle.calls.specs.Runs.{Freshened, freshRun, Posted, postRun, Framed, frameRun}
 use Rattle.export.specs.Records.{numbersOf}
 
 pub freshened : {old lent : Run} {n l limit rule : ℕ} {waiting posted sent dropped waiting' posted' sent' dropped' numbers : List ℕ} {v : Verdict} →

@@ -2,7 +2,7 @@
 use Prim.Native.Nat.{ℕ}
 use mathlib.Core.List.{List, [], _∷_}
 use lib.ListN.{getD}
-use Rattle.run.specs.declared.record.Run.{Run}
+use Rattle.calls.specs.declared.record.Run.{Run}
 
 -- N, L, B, the rule, and the counts of accepted posts and frames
 abbrev pub numbersOf : Run → List ℕ

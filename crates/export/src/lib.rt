@@ -11,7 +11,7 @@ use planner::answers::verdict;
 ghost use mathlib.Core.Path.{_≡_};
 ghost use Rattle.slacks.specs.Slacks.{SlacksResult};
 ghost use Rattle.planner.specs.Plans.{PlanResult, verdictOf};
-ghost use Rattle.run.specs.Runs.{Freshened, freshRun, Posted, postRun, Framed, frameRun};
+ghost use Rattle.calls.specs.Runs.{Freshened, freshRun, Posted, postRun, Framed, frameRun};
 ghost use Rattle.export.specs.Records.{numbersOf, recordOf};
 ghost use Rattle.export.specs.Reports.{Reported, ReportedPlan, reportOf};
 
@@ -80,7 +80,7 @@ pub extern "C" fn gyodaebeun_fresh(
     ensures { λ r. ⌜ Reported (λ v. (Freshened (recordOf (now (run .entry))) nodes slots limit rule (now (waiting .entry)) (now (posted .entry)) (now (sent .entry)) (now (dropped .entry)) (now (waiting .exit)) (now (posted .exit)) (now (sent .exit)) (now (dropped .exit)) v) × (now (run .exit) ≡ numbersOf (freshRun (recordOf (now (run .entry))) nodes slots limit rule v))) r (now (place .exit)) ⌝ }
 {
     let old = read(*run);
-    let v = run::fresh::fresh_on(
+    let v = calls::fresh::fresh_on(
         old,
         nodes,
         slots,
@@ -91,7 +91,7 @@ pub extern "C" fn gyodaebeun_fresh(
         sent,
         dropped,
     );
-    *run = numbers(run::fresh::fresh_run(old, v, nodes, slots, limit, rule));
+    *run = numbers(calls::fresh::fresh_run(old, v, nodes, slots, limit, rule));
     *place = star::refusals::place(v);
     star::refusals::number(v)
 }
@@ -110,8 +110,8 @@ pub extern "C" fn gyodaebeun_post(
     ensures { λ r. ⌜ Reported (λ v. (Posted (recordOf (now (run .entry))) (now (arrivals .entry)) (now (waiting .entry)) (now (posted .entry)) (now (sent .entry)) (now (dropped .entry)) (now (waiting .exit)) (now (posted .exit)) (now (dropped .exit)) v) × (now (run .exit) ≡ numbersOf (postRun (recordOf (now (run .entry))) v))) r (now (place .exit)) ⌝ }
 {
     let old = read(*run);
-    let v = run::post::post_on(old, arrivals, waiting, posted, sent, dropped);
-    *run = numbers(run::post::post_run(old, v));
+    let v = calls::post::post_on(old, arrivals, waiting, posted, sent, dropped);
+    *run = numbers(calls::post::post_run(old, v));
     *place = star::refusals::place(v);
     star::refusals::number(v)
 }
@@ -133,7 +133,7 @@ pub extern "C" fn gyodaebeun_frame(
     ensures { λ r. ⌜ ReportedPlan (λ a. (Framed (recordOf (now (run .entry))) (now (waiting .entry)) (now (posted .entry)) (now (sent .entry)) (now (dropped .entry)) (now (kept .entry)) (now (withdrawn .entry)) (now (schedule .entry)) (now (waiting .exit)) (now (sent .exit)) (now (kept .exit)) (now (withdrawn .exit)) (now (schedule .exit)) a) × (now (run .exit) ≡ numbersOf (frameRun (recordOf (now (run .entry))) (verdictOf a)))) r (now (report .exit)) ⌝ }
 {
     let old = read(*run);
-    let a = run::frame::frame_on(
+    let a = calls::frame::frame_on(
         old,
         waiting,
         posted,
@@ -143,7 +143,7 @@ pub extern "C" fn gyodaebeun_frame(
         withdrawn,
         schedule,
     );
-    *run = numbers(run::frame::frame_run(old, a));
+    *run = numbers(calls::frame::frame_run(old, a));
     *report = reported(a);
     star::refusals::number(verdict(a))
 }

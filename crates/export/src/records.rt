@@ -1,5 +1,5 @@
 // The record of a run as six numbers: N, L, B, the rule, and the counts of accepted posts and frames.
-use run::record::Run;
+use calls::record::Run;
 ghost use mathlib.Core.Path.{_≡_};
 ghost use Rattle.export.specs.Records.{numbersOf, recordOf};
 

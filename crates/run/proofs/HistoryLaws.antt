@@ -26,13 +26,13 @@ use Rattle.planner.specs.declared.answers.Answer.the-variants as answer
 use Rattle.planner.specs.Plans.{verdictOf, Wrote}
 use Rattle.books.specs.Books.{firstDisagreeing}
 use Rattle.books.proofs.Agreements.{Agree, none-disagreeing}
-use Rattle.run.specs.Runs.{freshRun, cleared, postVerdict, postRun, postPosted, postDropped, postWaiting, frameVerdict, frameRun}
-use Rattle.run.specs.Checks.{Ranges}
+use Rattle.calls.specs.Runs.{freshRun, cleared, postVerdict, postRun, postPosted, postDropped, postWaiting, frameVerdict, frameRun}
+use Rattle.calls.specs.Checks.{Ranges}
 use Rattle.run.specs.Calls.{Held, FreshCall, PostCall, FrameCall}
 use Rattle.run.specs.Histories.{Lent, Event, posting, framing, outcome, Happens, History, started, continued, arrived, carried, queue, exceeded, postsOf, framesOf, met, given, BooksHold}
-use Rattle.run.proofs.Verdicts.{fresh-accepted, post-accepted}
-use Rattle.planner.proofs.PlanLaws.{plan-below}
-use Rattle.run.proofs.SentLaws.{at-place, plan-most, met-ext}
+use Rattle.calls.proofs.Verdicts.{fresh-accepted, post-accepted}
+use Rattle.planner.proofs.PlanLaws.{plan-below, at-place}
+use Rattle.run.proofs.SentLaws.{plan-most, met-ext}
 
 -- ---- a pair of a table that was written by a rule
 module _ (n : ℕ) (f : ℕ → ℕ) (old : List ℕ) (i j : ℕ) (hi : i < n) (hj : j < n) where

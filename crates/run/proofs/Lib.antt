@@ -1,5 +1,3 @@
--- The laws of the entries' checks, of their work, and of a run's history.
-pub mod Verdicts
+-- The laws of a run's history.
 pub mod SentLaws
-pub mod Outcomes
 pub mod HistoryLaws

@@ -1,37 +1,24 @@
--- What a plan's tables say of its demand, place by place: none keeps more than it asks, and under the least rule no conflict-free schedule meets
--- more. A demand that is met and what is refused of it make up the demand; the rest is the laws of the two rules. Assumes nothing.
-use Prim.Native.Nat.{ℕ, _+_, _-_, _*_, _/_, _%_, _≤_, _<_, min}
+-- What a plan's tables say of its demand: under the least rule no conflict-free schedule meets more. A demand that is met and what is refused of it make up the demand; the rest is the laws of the two rules. Assumes nothing.
+use Prim.Native.Nat.{ℕ, _+_, _-_, _≤_, _<_, min}
 use native.Mathlib.Omega.{arith}
 use mathlib.Core.Path.{_≡_, refl, sym, _∙_, ap}
 use mathlib.Core.List.{List}
-use lib.ListN.{getD}
 use Rattle.sums.specs.Sums.{sumTo}
 use Rattle.sums.specs.Tables.{cell}
 use Rattle.sums.proofs.Sums.{sum-ext, sum-add}
-use Rattle.sums.proofs.Tables.{take-cell, place-split}
+use Rattle.sums.proofs.Tables.{take-cell}
 use Rattle.star.specs.Lines.{total, wholeFrame}
 use Rattle.star.specs.Schedules.{ConflictFree, count, refusedBy}
 use Rattle.star.proofs.LineLaws.{total-ext}
 use Rattle.least.specs.Least.{keptFrom}
 use Rattle.least.proofs.LeastIsLeast.{least-is-least-whole}
 use Rattle.planner.specs.Plans.{Plan}
-use Rattle.planner.proofs.PlanLaws.{plan-below}
 use Rattle.run.specs.Histories.{met, given}
 
--- the cell at a place is that of its pair
-pub at-place : (n : ℕ) (t : List ℕ) (p : ℕ) → p < n * n → getD t p 0 ≡ cell n t (p / n) (p % n)
-unfolding cell
-at-place n t p lt = ap (λ x. getD t x 0) (sym (place-split n p lt .1 .1))
-
-module _ {n l rule : ℕ} {cap d kept withdrawn schedule : List ℕ} (p : Plan n l rule cap d kept withdrawn schedule) where
-  pub plan-below-at : rule ≤ 1 → (q : ℕ) → q < n * n → getD kept q 0 ≤ getD d q 0
-  plan-below-at known q lt = let s = place-split n q lt in
-      omega (arith, at-place n kept q lt, at-place n d q lt, plan-below known p (q / n) (q % n) (s .0) (s .1 .0))
-
-  -- the schedule gives what is kept
-  pub given-kept : given n l schedule ≡ total n kept
-  unfolding given total
-  given-kept = sum-ext n _ _ (λ i hi. sum-ext n _ _ (λ j hj. p .carried .exact i j hi hj))
+-- the schedule gives what is kept
+pub given-kept : {n l rule : ℕ} {cap d kept withdrawn schedule : List ℕ} → Plan n l rule cap d kept withdrawn schedule → given n l schedule ≡ total n kept
+unfolding given total
+given-kept {n} p = sum-ext n _ _ (λ i hi. sum-ext n _ _ (λ j hj. p .carried .exact i j hi hj))
 
 -- what of a demand a schedule meets, and what it refuses
 pub met-and-refused : (n l : ℕ) (d s : List ℕ) → met n l (cell n d) s + refusedBy n l d s ≡ total n d

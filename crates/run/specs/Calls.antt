@@ -5,8 +5,8 @@ use mathlib.Core.List.{List}
 use Rattle.star.specs.declared.refusals.Verdict.{Verdict}
 use Rattle.planner.specs.declared.answers.Answer.{Answer}
 use Rattle.planner.specs.Plans.{verdictOf}
-use Rattle.run.specs.declared.record.Run.{Run}
-use Rattle.run.specs.Runs.{Freshened, freshRun, Posted, postRun, Framed, frameRun}
+use Rattle.calls.specs.declared.record.Run.{Run}
+use Rattle.calls.specs.Runs.{Freshened, freshRun, Posted, postRun, Framed, frameRun}
 
 -- the record of a run and its four tables
 pub record Held : Type 0 where

@@ -1,6 +1,3 @@
--- What the entries of a run promise.
-pub mod Books
-pub mod Runs
+-- What the entries of a run promise, and what follows for whole runs.
 pub mod Calls
-pub mod Checks
 pub mod Histories

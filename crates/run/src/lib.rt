@@ -1,7 +1,5 @@
-// A run with queues: its record, and the entries that start it, post arrivals to it and send a frame of it. Each entry is thin: it copies the
-// record out, and covered functions on the record and the tables say what happens (`.._on`) and what the record is then (`.._run`).
-pub mod checks;
+// A run with queues: the entries that start it, post arrivals to it and send a frame of it, its record lent by the caller. Each is thin: it copies
+// the record out, and functions on its values and the tables say what happens and what the record is then.
 pub mod frame;
 pub mod fresh;
 pub mod post;
-pub mod record;

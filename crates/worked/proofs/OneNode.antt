@@ -22,9 +22,9 @@ use Rattle.least.specs.Least.{Greatest, keptFrom, keptCell, left, longer, share
 use Rattle.planner.specs.declared.answers.Answer.{Answer}
 use Rattle.planner.specs.declared.answers.Answer.the-variants.{Planned}
 use Rattle.planner.specs.Plans.{verdictOf}
-use Rattle.run.specs.declared.record.Run.{Run}
-use Rattle.run.specs.Books.{booksAgree, firstDisagreeing}
-use Rattle.run.specs.Runs.{freshVerdict, freshRun, cleared, postVerdict, postRun, postPosted, postDropped, postWaiting, frameVerdict, frameRun}
+use Rattle.calls.specs.declared.record.Run.{Run}
+use Rattle.books.specs.Books.{booksAgree, firstDisagreeing}
+use Rattle.calls.specs.Runs.{freshVerdict, freshRun, cleared, postVerdict, postRun, postPosted, postDropped, postWaiting, frameVerdict, frameRun}
 use Rattle.run.specs.Calls.{Held, FreshCall, PostCall, FrameCall}
 use Rattle.worked.specs.Worked.{RunLine, start}
 use Rattle.worked.proofs.Marks.{by-marks}

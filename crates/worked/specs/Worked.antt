@@ -12,7 +12,7 @@ use Rattle.fair.specs.Fair.{fairKept}
 use Rattle.least.specs.Least.{Greatest, keptFrom}
 use Rattle.planner.specs.declared.answers.Answer.{Answer}
 use Rattle.planner.specs.Plans.{Plan, verdictOf}
-use Rattle.run.specs.declared.record.Run.{Run}
+use Rattle.calls.specs.declared.record.Run.{Run}
 use Rattle.run.specs.Calls.{Held, FreshCall, PostCall, FrameCall}
 
 -- a line under rule 0: what is kept, and the refused total

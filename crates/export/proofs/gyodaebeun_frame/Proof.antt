@@ -2,7 +2,7 @@
 use mathlib.Core.Path.{ap, _∙_}
 use borrow.Author.Needs.{needs}
 use Rattle.star.specs.Refusals.{verdictNumber}
-use Rattle.run.proofs.Outcomes.{frame-counted}
+use Rattle.calls.proofs.Outcomes.{frame-counted}
 use Rattle.export.specs.Records.{numbersOf}
 use Rattle.export.proofs.RecordLaws.{framed}
 use Rattle.export.proofs.gyodaebeun_frame.Statement.{statement}

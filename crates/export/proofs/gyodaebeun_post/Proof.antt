@@ -1,7 +1,7 @@
 -- `gyodaebeun_post` meets its contract: the record is read from its numbers and written back as such. Assumes nothing.
 use mathlib.Core.Path.{ap, _∙_}
 use borrow.Author.Needs.{needs}
-use Rattle.run.proofs.Outcomes.{post-counted}
+use Rattle.calls.proofs.Outcomes.{post-counted}
 use Rattle.export.specs.Records.{numbersOf}
 use Rattle.export.proofs.RecordLaws.{posted}
 use Rattle.export.proofs.gyodaebeun_post.Statement.{statement}

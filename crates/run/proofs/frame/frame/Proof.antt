@@ -44,19 +44,19 @@ use Rattle.planner.specs.Plans.{verdictOf}
 use Rattle.planner.specs.declared.answers.Answer.{Answer}
 use Rattle.planner.proofs.answers.Answer as rAnswer
 use Rattle.planner.proofs.answers.Answer.Laws as lAnswer
-use Rattle.run.specs.Runs.{Framed, frameRun}
-use Rattle.run.specs.declared.record.Run.{Run}
-use Rattle.run.proofs.Outcomes.{frame-counted}
-use Rattle.run.proofs.record.Run as rRun
-use Rattle.run.proofs.record.Run.Laws as lRun
-use Rattle.run.proofs.frame.frame_on as on
-use Rattle.run.proofs.frame.frame_on.Symbol as on-def
-use Rattle.run.proofs.frame.frame_on.Symbol.{name as #run·frame-on}
-use Rattle.run.proofs.frame.frame_on.Met as on-thm
-use Rattle.run.proofs.frame.frame_run as after
-use Rattle.run.proofs.frame.frame_run.Symbol as after-def
-use Rattle.run.proofs.frame.frame_run.Symbol.{name as #run·frame-run}
-use Rattle.run.proofs.frame.frame_run.Met as after-thm
+use Rattle.calls.specs.Runs.{Framed, frameRun}
+use Rattle.calls.specs.declared.record.Run.{Run}
+use Rattle.calls.proofs.Outcomes.{frame-counted}
+use Rattle.calls.proofs.record.Run as rRun
+use Rattle.calls.proofs.record.Run.Laws as lRun
+use Rattle.calls.proofs.frame.frame_on as on
+use Rattle.calls.proofs.frame.frame_on.Symbol as on-def
+use Rattle.calls.proofs.frame.frame_on.Symbol.{name as #calls·frame-on}
+use Rattle.calls.proofs.frame.frame_on.Met as on-thm
+use Rattle.calls.proofs.frame.frame_run as after
+use Rattle.calls.proofs.frame.frame_run.Symbol as after-def
+use Rattle.calls.proofs.frame.frame_run.Symbol.{name as #calls·frame-run}
+use Rattle.calls.proofs.frame.frame_run.Met as after-thm
 use Rattle.run.proofs.frame.frame.Key.{name as #run·frame}
 use Rattle.run.proofs.frame.frame as f
 use Rattle.run.proofs.frame.frame.Code as code
@@ -152,7 +152,7 @@ module _ {M : Type 1} (𝓤 : URA M) (H : Heap 𝓤) (A : Atoms 𝓤) (W : Given
   said r m =
       exE 𝓤 _ (λ ws. snd∗ 𝓤 (sem 𝓤 H A (lasts after.ended tt (h, (r, tt)) ws)) (fact 𝓤 (AfterSays r m)))
 
-  module _ (C : Calls 𝓤 H) (Λ : Loops 𝓤 H) (fm : FmC 𝓤 H (W .laws) C) (known-on : Triple 𝓤 (C #run·frame-on) (On 𝓤 H A at-mem run)) (known-after : Triple 𝓤 (C #run·frame-run) (After 𝓤 H A at-mem run)) where
+  module _ (C : Calls 𝓤 H) (Λ : Loops 𝓤 H) (fm : FmC 𝓤 H (W .laws) C) (known-on : Triple 𝓤 (C #calls·frame-on) (On 𝓤 H A at-mem run)) (known-after : Triple 𝓤 (C #calls·frame-run) (After 𝓤 H A at-mem run)) where
     walk : Is (MutSlice (named 1) κ0 u32) s0 (v0 ∷ []) → Is (ShrSlice (named 2) κ1 u64) s1 (v1 ∷ []) → Is (MutSlice (named 3) κ2 u64) s2 (v2 ∷ []) → Is (ShrSlice (named 4) κ3 u64) s3 (v3 ∷ []) → Is (MutSlice (named 5) κ4 u32) s4 (v4 ∷ []) → Is (MutSlice (named 6) κ5 u32) s5 (v5 ∷ []) → Is (MutSlice (named 7) κ6 u8) s6 (v6 ∷ []) → ent 𝓤 (onEntry 𝓤 H A f.signature (κ, (κ0, (κ1, (κ2, (κ3, (κ4, (κ5, (κ6, tt)))))))) (q, (q0, (q1, (q2, (q3, (q4, (q5, (q6, tt)))))))) x at) (WpFn 𝓤 H C Λ code.function (vptr b o ∷ v0 ∷ v1 ∷ v2 ∷ v3 ∷ v4 ∷ v5 ∷ v6 ∷ []) Post)
     walk p0 p1 p2 p3 p4 p5 p6 =
         qed W ((‵ (flft κ q) ⊛ ‵ (flft κ0 q0) ⊛ ‵ (flft κ1 q1) ⊛ ‵ (flft κ2 q2) ⊛ ‵ (flft κ3 q3) ⊛ ‵ (flft κ4 q4) ⊛ ‵ (flft κ5 q5) ⊛ ‵ (flft κ6 q6) ⊛ ‵ ftrue) ∷ ‵ (owns (MutRef (named 0) κ rRun.the-row ∷ MutSlice (named 1) κ0 u32 ∷ ShrSlice (named 2) κ1 u64 ∷ MutSlice (named 3) κ2 u64 ∷ ShrSlice (named 4) κ3 u64 ∷ MutSlice (named 5) κ4 u32 ∷ MutSlice (named 6) κ5 u32 ∷ MutSlice (named 7) κ6 u8 ∷ []) x at) ∷ []) ∵ enter ! C Λ code.function (vptr b o ∷ v0 ∷ v1 ∷ v2 ∷ v3 ∷ v4 ∷ v5 ∷ v6 ∷ []) _ $
@@ -187,14 +187,14 @@ module _ {M : Type 1} (𝓤 : URA M) (H : Heap 𝓤) (A : Atoms 𝓤) (W : Given
         keep ! (0 ∷ 1 ∷ 2 ∷ 4 ∷ 9 ∷ 8 ∷ 7 ∷ 6 ∷ 5 ∷ 10 ∷ 11 ∷ 3 ∷ []) $ by ! (exits r u (zs .1 .0) (zs .1 .1 .1 .0) (zs .1 .1 .1 .1 .1 .0) (zs .1 .1 .1 .1 .1 .1 .0) (zs .1 .1 .1 .1 .1 .1 .1 .0) m e e2 len0 len2 len4 len5 len6)))))))))))))))))))))))))))))))))))))))
 
 module _ {M : Type 1} (𝓤 : URA M) (H : Heap 𝓤) (A : Atoms 𝓤) (W : Given 𝓤 H A) (at-mem : Memory → SProp 𝓤) (run : Routine → Fun 𝓤) where
-  walks : (𝓣 : Tables 𝓤 H) → Triple 𝓤 (𝓣 .C #run·frame-on) (On 𝓤 H A at-mem run) → Triple 𝓤 (𝓣 .C #run·frame-run) (After 𝓤 H A at-mem run) → Walks 𝓤 H A f.ended stayed (WpFn 𝓤 H (𝓣 .C) (𝓣 .Λ) code.function) (f.clauses 𝓤 H A at-mem run)
+  walks : (𝓣 : Tables 𝓤 H) → Triple 𝓤 (𝓣 .C #calls·frame-on) (On 𝓤 H A at-mem run) → Triple 𝓤 (𝓣 .C #calls·frame-run) (After 𝓤 H A at-mem run) → Walks 𝓤 H A f.ended stayed (WpFn 𝓤 H (𝓣 .C) (𝓣 .Λ) code.function) (f.clauses 𝓤 H A at-mem run)
   walks 𝓣 known-on known-after = walked 𝓤 H A f.ended stayed (f.clauses 𝓤 H A at-mem run) (WpFn 𝓤 H (𝓣 .C) (𝓣 .Λ) code.function) (λ κs. (ptr-vals, (slice-vals, (slice-vals, (slice-vals, (slice-vals, (slice-vals, (slice-vals, (slice-vals, tt))))))))) (λ κs. (mut-tells (named 0) (κs .0) rRun.the-row, (mut-slice-tells (named 1) (κs .1 .0) u32, (shr-slice-tells (named 2) (κs .1 .1 .0) u64, (mut-slice-tells (named 3) (κs .1 .1 .1 .0) u64, (shr-slice-tells (named 4) (κs .1 .1 .1 .1 .0) u64, (mut-slice-tells (named 5) (κs .1 .1 .1 .1 .1 .0) u32, (mut-slice-tells (named 6) (κs .1 .1 .1 .1 .1 .1 .0) u32, (mut-slice-tells (named 7) (κs .1 .1 .1 .1 .1 .1 .1 .0) u8, tt)))))))))
       (λ κs qs bounds a g are. via 𝓤 _ (fst∗ 𝓤 _ (emp 𝓤)) (walk 𝓤 H A W at-mem run (κs .0) (qs .0) (κs .1 .0) (κs .1 .1 .0) (κs .1 .1 .1 .0) (κs .1 .1 .1 .1 .0) (κs .1 .1 .1 .1 .1 .0) (κs .1 .1 .1 .1 .1 .1 .0) (κs .1 .1 .1 .1 .1 .1 .1 .0) (qs .1 .0) (qs .1 .1 .0) (qs .1 .1 .1 .0) (qs .1 .1 .1 .1 .0) (qs .1 .1 .1 .1 .1 .0) (qs .1 .1 .1 .1 .1 .1 .0) (qs .1 .1 .1 .1 .1 .1 .1 .0) (a .0 .ptr .0) (a .0 .ptr .1) (a .0 .name) (a .0 .now) (a .1 .0) (a .1 .1 .0) (a .1 .1 .1 .0) (a .1 .1 .1 .1 .0) (a .1 .1 .1 .1 .1 .0) (a .1 .1 .1 .1 .1 .1 .0) (a .1 .1 .1 .1 .1 .1 .1 .0) (𝓣 .C) (𝓣 .Λ) (fmOf 𝓤 H (W .laws) 𝓣) known-on known-after (are .1 .0) (are .1 .1 .0) (are .1 .1 .1 .0) (are .1 .1 .1 .1 .0) (are .1 .1 .1 .1 .1 .0) (are .1 .1 .1 .1 .1 .1 .0) (are .1 .1 .1 .1 .1 .1 .1 .0)))
 
   goes : AllGo 𝓤 H A W 8 (f.signature .params) (f.ended .kept) stayed
   goes = (goes-ref 𝓤 H A W 8 0 tt (plain (λ _. rRun.the-row)), (goes-gave-slice 𝓤 H A W 8 1 tt (plain (λ _. u32)), (goes-none-slice 𝓤 H A W 8 (2 ∷ []) tt (plain (λ _. u64)) kept, (goes-gave-slice 𝓤 H A W 8 3 tt (plain (λ _. u64)), (goes-none-slice 𝓤 H A W 8 (4 ∷ []) tt (plain (λ _. u64)) kept, (goes-gave-slice 𝓤 H A W 8 5 tt (plain (λ _. u32)), (goes-gave-slice 𝓤 H A W 8 6 tt (plain (λ _. u32)), (goes-gave-slice 𝓤 H A W 8 7 tt (plain (λ _. u8)), tt))))))))
 
-meets : {M : Type 1} (𝓤 : URA M) (H : Heap 𝓤) (A : Atoms 𝓤) (W : Given 𝓤 H A) (at-mem : Memory → SProp 𝓤) (run : Routine → Fun 𝓤) (𝓣 : Tables 𝓤 H) → Triple 𝓤 (𝓣 .C #run·frame-on) (On 𝓤 H A at-mem run) → Triple 𝓤 (𝓣 .C #run·frame-run) (After 𝓤 H A at-mem run) → Meets 𝓤 H A f.signature (WpFn 𝓤 H (𝓣 .C) (𝓣 .Λ) code.function) (f.spec 𝓤 H A at-mem run)
+meets : {M : Type 1} (𝓤 : URA M) (H : Heap 𝓤) (A : Atoms 𝓤) (W : Given 𝓤 H A) (at-mem : Memory → SProp 𝓤) (run : Routine → Fun 𝓤) (𝓣 : Tables 𝓤 H) → Triple 𝓤 (𝓣 .C #calls·frame-on) (On 𝓤 H A at-mem run) → Triple 𝓤 (𝓣 .C #calls·frame-run) (After 𝓤 H A at-mem run) → Meets 𝓤 H A f.signature (WpFn 𝓤 H (𝓣 .C) (𝓣 .Λ) code.function) (f.spec 𝓤 H A at-mem run)
 meets 𝓤 H A W at-mem run 𝓣 known-on known-after = walk-meets 𝓤 H A f.ended stayed W (goes 𝓤 H A W at-mem run) (f.clauses 𝓤 H A at-mem run) (WpFn 𝓤 H (𝓣 .C) (𝓣 .Λ) code.function) (WpFn-mono 𝓤 H (W .laws) 𝓣 code.function) (walks 𝓤 H A W at-mem run 𝓣 known-on known-after)
 
 pub frame-spec : {M : Type 1} → stated.statement M
@@ -203,5 +203,5 @@ frame-spec 𝓤 H 𝓜 𝓖 𝓡 =
     entered 𝓤 H (tripleOf 𝓤 H (𝓖 .A) f.signature (f.spec 𝓤 H (𝓖 .A) (𝓜 .mem) (𝓡 .run)))
     (tables 𝓤 H 𝓜 𝓡 code.env .C) (tables 𝓤 H 𝓜 𝓡 code.env .Λ) #run·frame code.function (code.unfolded 𝓤 H 𝓜 𝓡)
     (meets 𝓤 H (𝓖 .A) (givenOf 𝓤 H 𝓜 𝓖) (𝓜 .mem) (𝓡 .run) (tablesOf 𝓤 H 𝓜 (tables 𝓤 H 𝓜 𝓡 code.env))
-    (cited 𝓤 H (On 𝓤 H (𝓖 .A) (𝓜 .mem) (𝓡 .run)) 𝓜 𝓡 code.env #run·frame-on on-def.routine code.calls-run·frame·frame-on (on-thm.met 𝓤 H 𝓜 𝓖 𝓡))
-    (cited 𝓤 H (After 𝓤 H (𝓖 .A) (𝓜 .mem) (𝓡 .run)) 𝓜 𝓡 code.env #run·frame-run after-def.routine code.calls-run·frame·frame-run (after-thm.met 𝓤 H 𝓜 𝓖 𝓡)))
+    (cited 𝓤 H (On 𝓤 H (𝓖 .A) (𝓜 .mem) (𝓡 .run)) 𝓜 𝓡 code.env #calls·frame-on on-def.routine code.calls-calls·frame·frame-on (on-thm.met 𝓤 H 𝓜 𝓖 𝓡))
+    (cited 𝓤 H (After 𝓤 H (𝓖 .A) (𝓜 .mem) (𝓡 .run)) 𝓜 𝓡 code.env #calls·frame-run after-def.routine code.calls-calls·frame·frame-run (after-thm.met 𝓤 H 𝓜 𝓖 𝓡)))

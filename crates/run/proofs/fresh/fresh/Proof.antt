@@ -43,18 +43,18 @@ use denote.Exit.{yes as kept}
 use Rattle.star.specs.declared.refusals.Verdict.{Verdict}
 use Rattle.star.proofs.refusals.Verdict as rVerdict
 use Rattle.star.proofs.refusals.Verdict.Laws as lVerdict
-use Rattle.run.specs.Runs.{Freshened, freshRun}
-use Rattle.run.specs.declared.record.Run.{Run}
-use Rattle.run.proofs.record.Run as rRun
-use Rattle.run.proofs.record.Run.Laws as lRun
-use Rattle.run.proofs.fresh.fresh_on as on
-use Rattle.run.proofs.fresh.fresh_on.Symbol as on-def
-use Rattle.run.proofs.fresh.fresh_on.Symbol.{name as #run·fresh-on}
-use Rattle.run.proofs.fresh.fresh_on.Met as on-thm
-use Rattle.run.proofs.fresh.fresh_run as after
-use Rattle.run.proofs.fresh.fresh_run.Symbol as after-def
-use Rattle.run.proofs.fresh.fresh_run.Symbol.{name as #run·fresh-run}
-use Rattle.run.proofs.fresh.fresh_run.Met as after-thm
+use Rattle.calls.specs.Runs.{Freshened, freshRun}
+use Rattle.calls.specs.declared.record.Run.{Run}
+use Rattle.calls.proofs.record.Run as rRun
+use Rattle.calls.proofs.record.Run.Laws as lRun
+use Rattle.calls.proofs.fresh.fresh_on as on
+use Rattle.calls.proofs.fresh.fresh_on.Symbol as on-def
+use Rattle.calls.proofs.fresh.fresh_on.Symbol.{name as #calls·fresh-on}
+use Rattle.calls.proofs.fresh.fresh_on.Met as on-thm
+use Rattle.calls.proofs.fresh.fresh_run as after
+use Rattle.calls.proofs.fresh.fresh_run.Symbol as after-def
+use Rattle.calls.proofs.fresh.fresh_run.Symbol.{name as #calls·fresh-run}
+use Rattle.calls.proofs.fresh.fresh_run.Met as after-thm
 use Rattle.run.proofs.fresh.fresh.Key.{name as #run·fresh}
 use Rattle.run.proofs.fresh.fresh as f
 use Rattle.run.proofs.fresh.fresh.Code as code
@@ -132,7 +132,7 @@ module _ {M : Type 1} (𝓤 : URA M) (H : Heap 𝓤) (A : Atoms 𝓤) (W : Given
   said r m =
       exE 𝓤 _ (λ ws. snd∗ 𝓤 (sem 𝓤 H A (lasts after.ended tt (h, (r, (n0, (n1, (n2, (n3, tt)))))) ws)) (fact 𝓤 (AfterSays r m)))
 
-  module _ (C : Calls 𝓤 H) (Λ : Loops 𝓤 H) (fm : FmC 𝓤 H (W .laws) C) (known-on : Triple 𝓤 (C #run·fresh-on) (On 𝓤 H A at-mem run)) (known-after : Triple 𝓤 (C #run·fresh-run) (After 𝓤 H A at-mem run)) where
+  module _ (C : Calls 𝓤 H) (Λ : Loops 𝓤 H) (fm : FmC 𝓤 H (W .laws) C) (known-on : Triple 𝓤 (C #calls·fresh-on) (On 𝓤 H A at-mem run)) (known-after : Triple 𝓤 (C #calls·fresh-run) (After 𝓤 H A at-mem run)) where
     walk : Is (MutSlice (named 1) κ4 u32) s4 (v4 ∷ []) → Is (MutSlice (named 2) κ5 u64) s5 (v5 ∷ []) → Is (MutSlice (named 3) κ6 u64) s6 (v6 ∷ []) → Is (MutSlice (named 4) κ7 u64) s7 (v7 ∷ []) → ent 𝓤 (onEntry 𝓤 H A f.signature (κ, (κ4, (κ5, (κ6, (κ7, tt))))) (q, (q4, (q5, (q6, (q7, tt))))) x at) (WpFn 𝓤 H C Λ code.function (vptr b o ∷ vint w32 n0 ∷ vint w32 n1 ∷ vint w32 n2 ∷ vint w32 n3 ∷ v4 ∷ v5 ∷ v6 ∷ v7 ∷ []) Post)
     walk p4 p5 p6 p7 =
         qed W ((‵ (flft κ q) ⊛ ‵ (flft κ4 q4) ⊛ ‵ (flft κ5 q5) ⊛ ‵ (flft κ6 q6) ⊛ ‵ (flft κ7 q7) ⊛ ‵ ftrue) ∷ ‵ (owns (MutRef (named 0) κ rRun.the-row ∷ u32 ∷ u32 ∷ u32 ∷ u32 ∷ MutSlice (named 1) κ4 u32 ∷ MutSlice (named 2) κ5 u64 ∷ MutSlice (named 3) κ6 u64 ∷ MutSlice (named 4) κ7 u64 ∷ []) x at) ∷ []) ∵ enter ! C Λ code.function (vptr b o ∷ vint w32 n0 ∷ vint w32 n1 ∷ vint w32 n2 ∷ vint w32 n3 ∷ v4 ∷ v5 ∷ v6 ∷ v7 ∷ []) _ $
@@ -165,14 +165,14 @@ module _ {M : Type 1} (𝓤 : URA M) (H : Heap 𝓤) (A : Atoms 𝓤) (W : Given
         keep ! (0 ∷ 1 ∷ 2 ∷ 4 ∷ 8 ∷ 7 ∷ 6 ∷ 5 ∷ 3 ∷ []) $ by ! (exits r u (zs .1 .1 .1 .1 .1 .0) (zs .1 .1 .1 .1 .1 .1 .0) (zs .1 .1 .1 .1 .1 .1 .1 .0) (zs .1 .1 .1 .1 .1 .1 .1 .1 .0) m e e2 len4 len5 len6 len7)))))))))))))))))))))))))))))))))))))
 
 module _ {M : Type 1} (𝓤 : URA M) (H : Heap 𝓤) (A : Atoms 𝓤) (W : Given 𝓤 H A) (at-mem : Memory → SProp 𝓤) (run : Routine → Fun 𝓤) where
-  walks : (𝓣 : Tables 𝓤 H) → Triple 𝓤 (𝓣 .C #run·fresh-on) (On 𝓤 H A at-mem run) → Triple 𝓤 (𝓣 .C #run·fresh-run) (After 𝓤 H A at-mem run) → Walks 𝓤 H A f.ended stayed (WpFn 𝓤 H (𝓣 .C) (𝓣 .Λ) code.function) (f.clauses 𝓤 H A at-mem run)
+  walks : (𝓣 : Tables 𝓤 H) → Triple 𝓤 (𝓣 .C #calls·fresh-on) (On 𝓤 H A at-mem run) → Triple 𝓤 (𝓣 .C #calls·fresh-run) (After 𝓤 H A at-mem run) → Walks 𝓤 H A f.ended stayed (WpFn 𝓤 H (𝓣 .C) (𝓣 .Λ) code.function) (f.clauses 𝓤 H A at-mem run)
   walks 𝓣 known-on known-after = walked 𝓤 H A f.ended stayed (f.clauses 𝓤 H A at-mem run) (WpFn 𝓤 H (𝓣 .C) (𝓣 .Λ) code.function) (λ κs. (ptr-vals, (uint-vals w32, (uint-vals w32, (uint-vals w32, (uint-vals w32, (slice-vals, (slice-vals, (slice-vals, (slice-vals, tt)))))))))) (λ κs. (mut-tells (named 0) (κs .0) rRun.the-row, (uint-tells w32, (uint-tells w32, (uint-tells w32, (uint-tells w32, (mut-slice-tells (named 1) (κs .1 .0) u32, (mut-slice-tells (named 2) (κs .1 .1 .0) u64, (mut-slice-tells (named 3) (κs .1 .1 .1 .0) u64, (mut-slice-tells (named 4) (κs .1 .1 .1 .1 .0) u64, tt))))))))))
       (λ κs qs bounds a g are. via 𝓤 _ (fst∗ 𝓤 _ (emp 𝓤)) (walk 𝓤 H A W at-mem run (κs .0) (qs .0) (κs .1 .0) (κs .1 .1 .0) (κs .1 .1 .1 .0) (κs .1 .1 .1 .1 .0) (qs .1 .0) (qs .1 .1 .0) (qs .1 .1 .1 .0) (qs .1 .1 .1 .1 .0) (a .0 .ptr .0) (a .0 .ptr .1) (a .0 .name) (a .0 .now) (a .1 .0) (are .1 .0 .1) (a .1 .1 .0) (are .1 .1 .0 .1) (a .1 .1 .1 .0) (are .1 .1 .1 .0 .1) (a .1 .1 .1 .1 .0) (are .1 .1 .1 .1 .0 .1) (a .1 .1 .1 .1 .1 .0) (a .1 .1 .1 .1 .1 .1 .0) (a .1 .1 .1 .1 .1 .1 .1 .0) (a .1 .1 .1 .1 .1 .1 .1 .1 .0) (𝓣 .C) (𝓣 .Λ) (fmOf 𝓤 H (W .laws) 𝓣) known-on known-after (are .1 .1 .1 .1 .1 .0) (are .1 .1 .1 .1 .1 .1 .0) (are .1 .1 .1 .1 .1 .1 .1 .0) (are .1 .1 .1 .1 .1 .1 .1 .1 .0)))
 
   goes : AllGo 𝓤 H A W 5 (f.signature .params) (f.ended .kept) stayed
   goes = (goes-ref 𝓤 H A W 5 0 tt (plain (λ _. rRun.the-row)), (goes-none 𝓤 H A W 5 (λ _. u32) kept (λ κs x f. refl), (goes-none 𝓤 H A W 5 (λ _. u32) kept (λ κs x f. refl), (goes-none 𝓤 H A W 5 (λ _. u32) kept (λ κs x f. refl), (goes-none 𝓤 H A W 5 (λ _. u32) kept (λ κs x f. refl), (goes-gave-slice 𝓤 H A W 5 1 tt (plain (λ _. u32)), (goes-gave-slice 𝓤 H A W 5 2 tt (plain (λ _. u64)), (goes-gave-slice 𝓤 H A W 5 3 tt (plain (λ _. u64)), (goes-gave-slice 𝓤 H A W 5 4 tt (plain (λ _. u64)), tt)))))))))
 
-meets : {M : Type 1} (𝓤 : URA M) (H : Heap 𝓤) (A : Atoms 𝓤) (W : Given 𝓤 H A) (at-mem : Memory → SProp 𝓤) (run : Routine → Fun 𝓤) (𝓣 : Tables 𝓤 H) → Triple 𝓤 (𝓣 .C #run·fresh-on) (On 𝓤 H A at-mem run) → Triple 𝓤 (𝓣 .C #run·fresh-run) (After 𝓤 H A at-mem run) → Meets 𝓤 H A f.signature (WpFn 𝓤 H (𝓣 .C) (𝓣 .Λ) code.function) (f.spec 𝓤 H A at-mem run)
+meets : {M : Type 1} (𝓤 : URA M) (H : Heap 𝓤) (A : Atoms 𝓤) (W : Given 𝓤 H A) (at-mem : Memory → SProp 𝓤) (run : Routine → Fun 𝓤) (𝓣 : Tables 𝓤 H) → Triple 𝓤 (𝓣 .C #calls·fresh-on) (On 𝓤 H A at-mem run) → Triple 𝓤 (𝓣 .C #calls·fresh-run) (After 𝓤 H A at-mem run) → Meets 𝓤 H A f.signature (WpFn 𝓤 H (𝓣 .C) (𝓣 .Λ) code.function) (f.spec 𝓤 H A at-mem run)
 meets 𝓤 H A W at-mem run 𝓣 known-on known-after = walk-meets 𝓤 H A f.ended stayed W (goes 𝓤 H A W at-mem run) (f.clauses 𝓤 H A at-mem run) (WpFn 𝓤 H (𝓣 .C) (𝓣 .Λ) code.function) (WpFn-mono 𝓤 H (W .laws) 𝓣 code.function) (walks 𝓤 H A W at-mem run 𝓣 known-on known-after)
 
 pub fresh-spec : {M : Type 1} → stated.statement M
@@ -181,5 +181,5 @@ fresh-spec 𝓤 H 𝓜 𝓖 𝓡 =
     entered 𝓤 H (tripleOf 𝓤 H (𝓖 .A) f.signature (f.spec 𝓤 H (𝓖 .A) (𝓜 .mem) (𝓡 .run)))
     (tables 𝓤 H 𝓜 𝓡 code.env .C) (tables 𝓤 H 𝓜 𝓡 code.env .Λ) #run·fresh code.function (code.unfolded 𝓤 H 𝓜 𝓡)
     (meets 𝓤 H (𝓖 .A) (givenOf 𝓤 H 𝓜 𝓖) (𝓜 .mem) (𝓡 .run) (tablesOf 𝓤 H 𝓜 (tables 𝓤 H 𝓜 𝓡 code.env))
-    (cited 𝓤 H (On 𝓤 H (𝓖 .A) (𝓜 .mem) (𝓡 .run)) 𝓜 𝓡 code.env #run·fresh-on on-def.routine code.calls-run·fresh·fresh-on (on-thm.met 𝓤 H 𝓜 𝓖 𝓡))
-    (cited 𝓤 H (After 𝓤 H (𝓖 .A) (𝓜 .mem) (𝓡 .run)) 𝓜 𝓡 code.env #run·fresh-run after-def.routine code.calls-run·fresh·fresh-run (after-thm.met 𝓤 H 𝓜 𝓖 𝓡)))
+    (cited 𝓤 H (On 𝓤 H (𝓖 .A) (𝓜 .mem) (𝓡 .run)) 𝓜 𝓡 code.env #calls·fresh-on on-def.routine code.calls-calls·fresh·fresh-on (on-thm.met 𝓤 H 𝓜 𝓖 𝓡))
+    (cited 𝓤 H (After 𝓤 H (𝓖 .A) (𝓜 .mem) (𝓡 .run)) 𝓜 𝓡 code.env #calls·fresh-run after-def.routine code.calls-calls·fresh·fresh-run (after-thm.met 𝓤 H 𝓜 𝓖 𝓡)))

@@ -43,19 +43,19 @@ use Rattle.star.specs.declared.refusals.Verdict.the-variants.{Accepted}
 use Rattle.star.specs.declared.refusals.Verdict.{Verdict}
 use Rattle.star.proofs.refusals.Verdict as rVerdict
 use Rattle.star.proofs.refusals.Verdict.Laws as lVerdict
-use Rattle.run.specs.Runs.{Posted, postRun}
-use Rattle.run.specs.declared.record.Run.{Run}
-use Rattle.run.proofs.Outcomes.{post-counted}
-use Rattle.run.proofs.record.Run as rRun
-use Rattle.run.proofs.record.Run.Laws as lRun
-use Rattle.run.proofs.post.post_on as on
-use Rattle.run.proofs.post.post_on.Symbol as on-def
-use Rattle.run.proofs.post.post_on.Symbol.{name as #run·post-on}
-use Rattle.run.proofs.post.post_on.Met as on-thm
-use Rattle.run.proofs.post.post_run as after
-use Rattle.run.proofs.post.post_run.Symbol as after-def
-use Rattle.run.proofs.post.post_run.Symbol.{name as #run·post-run}
-use Rattle.run.proofs.post.post_run.Met as after-thm
+use Rattle.calls.specs.Runs.{Posted, postRun}
+use Rattle.calls.specs.declared.record.Run.{Run}
+use Rattle.calls.proofs.Outcomes.{post-counted}
+use Rattle.calls.proofs.record.Run as rRun
+use Rattle.calls.proofs.record.Run.Laws as lRun
+use Rattle.calls.proofs.post.post_on as on
+use Rattle.calls.proofs.post.post_on.Symbol as on-def
+use Rattle.calls.proofs.post.post_on.Symbol.{name as #calls·post-on}
+use Rattle.calls.proofs.post.post_on.Met as on-thm
+use Rattle.calls.proofs.post.post_run as after
+use Rattle.calls.proofs.post.post_run.Symbol as after-def
+use Rattle.calls.proofs.post.post_run.Symbol.{name as #calls·post-run}
+use Rattle.calls.proofs.post.post_run.Met as after-thm
 use Rattle.run.proofs.post.post.Key.{name as #run·post}
 use Rattle.run.proofs.post.post as f
 use Rattle.run.proofs.post.post.Code as code
@@ -145,7 +145,7 @@ module _ {M : Type 1} (𝓤 : URA M) (H : Heap 𝓤) (A : Atoms 𝓤) (W : Given
   said r m =
       exE 𝓤 _ (λ ws. snd∗ 𝓤 (sem 𝓤 H A (lasts after.ended tt (h, (r, tt)) ws)) (fact 𝓤 (AfterSays r m)))
 
-  module _ (C : Calls 𝓤 H) (Λ : Loops 𝓤 H) (fm : FmC 𝓤 H (W .laws) C) (known-on : Triple 𝓤 (C #run·post-on) (On 𝓤 H A at-mem run)) (known-after : Triple 𝓤 (C #run·post-run) (After 𝓤 H A at-mem run)) where
+  module _ (C : Calls 𝓤 H) (Λ : Loops 𝓤 H) (fm : FmC 𝓤 H (W .laws) C) (known-on : Triple 𝓤 (C #calls·post-on) (On 𝓤 H A at-mem run)) (known-after : Triple 𝓤 (C #calls·post-run) (After 𝓤 H A at-mem run)) where
     walk : Is (ShrSlice (named 1) κ0 u32) s0 (v0 ∷ []) → Is (MutSlice (named 2) κ1 u32) s1 (v1 ∷ []) → Is (MutSlice (named 3) κ2 u64) s2 (v2 ∷ []) → Is (ShrSlice (named 4) κ3 u64) s3 (v3 ∷ []) → Is (MutSlice (named 5) κ4 u64) s4 (v4 ∷ []) → ent 𝓤 (onEntry 𝓤 H A f.signature (κ, (κ0, (κ1, (κ2, (κ3, (κ4, tt)))))) (q, (q0, (q1, (q2, (q3, (q4, tt)))))) x at) (WpFn 𝓤 H C Λ code.function (vptr b o ∷ v0 ∷ v1 ∷ v2 ∷ v3 ∷ v4 ∷ []) Post)
     walk p0 p1 p2 p3 p4 =
         qed W ((‵ (flft κ q) ⊛ ‵ (flft κ0 q0) ⊛ ‵ (flft κ1 q1) ⊛ ‵ (flft κ2 q2) ⊛ ‵ (flft κ3 q3) ⊛ ‵ (flft κ4 q4) ⊛ ‵ ftrue) ∷ ‵ (owns (MutRef (named 0) κ rRun.the-row ∷ ShrSlice (named 1) κ0 u32 ∷ MutSlice (named 2) κ1 u32 ∷ MutSlice (named 3) κ2 u64 ∷ ShrSlice (named 4) κ3 u64 ∷ MutSlice (named 5) κ4 u64 ∷ []) x at) ∷ []) ∵ enter ! C Λ code.function (vptr b o ∷ v0 ∷ v1 ∷ v2 ∷ v3 ∷ v4 ∷ []) _ $
@@ -176,14 +176,14 @@ module _ {M : Type 1} (𝓤 : URA M) (H : Heap 𝓤) (A : Atoms 𝓤) (W : Given
         keep ! (0 ∷ 1 ∷ 2 ∷ 4 ∷ 7 ∷ 6 ∷ 5 ∷ 8 ∷ 9 ∷ 3 ∷ []) $ by ! (exits r u (zs .1 .1 .0) (zs .1 .1 .1 .0) (zs .1 .1 .1 .1 .1 .0) m e e2 len1 len2 len4)))))))))))))))))))))))))))))))
 
 module _ {M : Type 1} (𝓤 : URA M) (H : Heap 𝓤) (A : Atoms 𝓤) (W : Given 𝓤 H A) (at-mem : Memory → SProp 𝓤) (run : Routine → Fun 𝓤) where
-  walks : (𝓣 : Tables 𝓤 H) → Triple 𝓤 (𝓣 .C #run·post-on) (On 𝓤 H A at-mem run) → Triple 𝓤 (𝓣 .C #run·post-run) (After 𝓤 H A at-mem run) → Walks 𝓤 H A f.ended stayed (WpFn 𝓤 H (𝓣 .C) (𝓣 .Λ) code.function) (f.clauses 𝓤 H A at-mem run)
+  walks : (𝓣 : Tables 𝓤 H) → Triple 𝓤 (𝓣 .C #calls·post-on) (On 𝓤 H A at-mem run) → Triple 𝓤 (𝓣 .C #calls·post-run) (After 𝓤 H A at-mem run) → Walks 𝓤 H A f.ended stayed (WpFn 𝓤 H (𝓣 .C) (𝓣 .Λ) code.function) (f.clauses 𝓤 H A at-mem run)
   walks 𝓣 known-on known-after = walked 𝓤 H A f.ended stayed (f.clauses 𝓤 H A at-mem run) (WpFn 𝓤 H (𝓣 .C) (𝓣 .Λ) code.function) (λ κs. (ptr-vals, (slice-vals, (slice-vals, (slice-vals, (slice-vals, (slice-vals, tt))))))) (λ κs. (mut-tells (named 0) (κs .0) rRun.the-row, (shr-slice-tells (named 1) (κs .1 .0) u32, (mut-slice-tells (named 2) (κs .1 .1 .0) u32, (mut-slice-tells (named 3) (κs .1 .1 .1 .0) u64, (shr-slice-tells (named 4) (κs .1 .1 .1 .1 .0) u64, (mut-slice-tells (named 5) (κs .1 .1 .1 .1 .1 .0) u64, tt)))))))
       (λ κs qs bounds a g are. via 𝓤 _ (fst∗ 𝓤 _ (emp 𝓤)) (walk 𝓤 H A W at-mem run (κs .0) (qs .0) (κs .1 .0) (κs .1 .1 .0) (κs .1 .1 .1 .0) (κs .1 .1 .1 .1 .0) (κs .1 .1 .1 .1 .1 .0) (qs .1 .0) (qs .1 .1 .0) (qs .1 .1 .1 .0) (qs .1 .1 .1 .1 .0) (qs .1 .1 .1 .1 .1 .0) (a .0 .ptr .0) (a .0 .ptr .1) (a .0 .name) (a .0 .now) (a .1 .0) (a .1 .1 .0) (a .1 .1 .1 .0) (a .1 .1 .1 .1 .0) (a .1 .1 .1 .1 .1 .0) (𝓣 .C) (𝓣 .Λ) (fmOf 𝓤 H (W .laws) 𝓣) known-on known-after (are .1 .0) (are .1 .1 .0) (are .1 .1 .1 .0) (are .1 .1 .1 .1 .0) (are .1 .1 .1 .1 .1 .0)))
 
   goes : AllGo 𝓤 H A W 6 (f.signature .params) (f.ended .kept) stayed
   goes = (goes-ref 𝓤 H A W 6 0 tt (plain (λ _. rRun.the-row)), (goes-none-slice 𝓤 H A W 6 (1 ∷ []) tt (plain (λ _. u32)) kept, (goes-gave-slice 𝓤 H A W 6 2 tt (plain (λ _. u32)), (goes-gave-slice 𝓤 H A W 6 3 tt (plain (λ _. u64)), (goes-none-slice 𝓤 H A W 6 (4 ∷ []) tt (plain (λ _. u64)) kept, (goes-gave-slice 𝓤 H A W 6 5 tt (plain (λ _. u64)), tt))))))
 
-meets : {M : Type 1} (𝓤 : URA M) (H : Heap 𝓤) (A : Atoms 𝓤) (W : Given 𝓤 H A) (at-mem : Memory → SProp 𝓤) (run : Routine → Fun 𝓤) (𝓣 : Tables 𝓤 H) → Triple 𝓤 (𝓣 .C #run·post-on) (On 𝓤 H A at-mem run) → Triple 𝓤 (𝓣 .C #run·post-run) (After 𝓤 H A at-mem run) → Meets 𝓤 H A f.signature (WpFn 𝓤 H (𝓣 .C) (𝓣 .Λ) code.function) (f.spec 𝓤 H A at-mem run)
+meets : {M : Type 1} (𝓤 : URA M) (H : Heap 𝓤) (A : Atoms 𝓤) (W : Given 𝓤 H A) (at-mem : Memory → SProp 𝓤) (run : Routine → Fun 𝓤) (𝓣 : Tables 𝓤 H) → Triple 𝓤 (𝓣 .C #calls·post-on) (On 𝓤 H A at-mem run) → Triple 𝓤 (𝓣 .C #calls·post-run) (After 𝓤 H A at-mem run) → Meets 𝓤 H A f.signature (WpFn 𝓤 H (𝓣 .C) (𝓣 .Λ) code.function) (f.spec 𝓤 H A at-mem run)
 meets 𝓤 H A W at-mem run 𝓣 known-on known-after = walk-meets 𝓤 H A f.ended stayed W (goes 𝓤 H A W at-mem run) (f.clauses 𝓤 H A at-mem run) (WpFn 𝓤 H (𝓣 .C) (𝓣 .Λ) code.function) (WpFn-mono 𝓤 H (W .laws) 𝓣 code.function) (walks 𝓤 H A W at-mem run 𝓣 known-on known-after)
 
 pub post-spec : {M : Type 1} → stated.statement M
@@ -192,5 +192,5 @@ post-spec 𝓤 H 𝓜 𝓖 𝓡 =
     entered 𝓤 H (tripleOf 𝓤 H (𝓖 .A) f.signature (f.spec 𝓤 H (𝓖 .A) (𝓜 .mem) (𝓡 .run)))
     (tables 𝓤 H 𝓜 𝓡 code.env .C) (tables 𝓤 H 𝓜 𝓡 code.env .Λ) #run·post code.function (code.unfolded 𝓤 H 𝓜 𝓡)
     (meets 𝓤 H (𝓖 .A) (givenOf 𝓤 H 𝓜 𝓖) (𝓜 .mem) (𝓡 .run) (tablesOf 𝓤 H 𝓜 (tables 𝓤 H 𝓜 𝓡 code.env))
-    (cited 𝓤 H (On 𝓤 H (𝓖 .A) (𝓜 .mem) (𝓡 .run)) 𝓜 𝓡 code.env #run·post-on on-def.routine code.calls-run·post·post-on (on-thm.met 𝓤 H 𝓜 𝓖 𝓡))
-    (cited 𝓤 H (After 𝓤 H (𝓖 .A) (𝓜 .mem) (𝓡 .run)) 𝓜 𝓡 code.env #run·post-run after-def.routine code.calls-run·post·post-run (after-thm.met 𝓤 H 𝓜 𝓖 𝓡)))
+    (cited 𝓤 H (On 𝓤 H (𝓖 .A) (𝓜 .mem) (𝓡 .run)) 𝓜 𝓡 code.env #calls·post-on on-def.routine code.calls-calls·post·post-on (on-thm.met 𝓤 H 𝓜 𝓖 𝓡))
+    (cited 𝓤 H (After 𝓤 H (𝓖 .A) (𝓜 .mem) (𝓡 .run)) 𝓜 𝓡 code.env #calls·post-run after-def.routine code.calls-calls·post·post-run (after-thm.met 𝓤 H 𝓜 𝓖 𝓡)))

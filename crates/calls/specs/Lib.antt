@@ -1,0 +1,3 @@
+-- What the calls of a run answer and write.
+pub mod Runs
+pub mod Checks

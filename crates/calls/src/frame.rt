@@ -1,0 +1,120 @@
+// What `frame` does: a frame is planned from the queues and sent.
+use crate::checks::books;
+use crate::checks::ranges;
+use crate::checks::short;
+use crate::record::Run;
+use books::amounts::add;
+use books::queues::dequeue;
+use planner::answers::Answer;
+use planner::checks::plan_short;
+use planner::plans::write_whole;
+use star::refusals::Refusal;
+use star::refusals::Verdict;
+ghost use mathlib.Core.Path.{_≡_};
+ghost use Prim.Native.Nat.{_<_};
+ghost use Rattle.star.specs.declared.refusals.Verdict.the-variants.{Accepted};
+ghost use Rattle.planner.specs.Plans.{verdictOf};
+ghost use Rattle.calls.specs.Runs.{frameVerdict, Framed, frameRun};
+
+// Which refusal is given, if any; the last three numbers say how many cells kept, withdrawn and schedule have.
+fn frame_verdict(
+    old: Run,
+    waiting: &[u32],
+    posted: &[u64],
+    sent: &[u64],
+    dropped: &[u64],
+    kept: usize,
+    withdrawn: usize,
+    schedule: usize,
+) -> Verdict
+    ensures { λ v. ⌜ v ≡ frameVerdict old (now (waiting .entry)) (now (posted .entry)) (now (sent .entry)) (now (dropped .entry)) kept withdrawn schedule ⌝ }
+{
+    let v = ranges(old.nodes, old.slots, old.rule, old.limit);
+    let Verdict::Accepted = v else {
+        return v;
+    };
+    let n = old.nodes as usize;
+    if short(n, waiting.len(), posted.len(), sent.len(), dropped.len()) {
+        return Verdict::Refused {
+            refusal: Refusal::TableShort,
+        };
+    }
+    if plan_short(n, old.slots as usize, kept, withdrawn, schedule) {
+        return Verdict::Refused {
+            refusal: Refusal::TableShort,
+        };
+    }
+    books(
+        n,
+        old.limit,
+        old.posts,
+        old.frames,
+        waiting,
+        posted,
+        sent,
+        dropped,
+    )
+}
+
+// What is answered, and what the tables hold then: the queues are planned, and what is kept leaves them.
+pub fn frame_on(
+    old: Run,
+    waiting: &mut [u32],
+    posted: &[u64],
+    sent: &mut [u64],
+    dropped: &[u64],
+    kept: &mut [u32],
+    withdrawn: &mut [u32],
+    schedule: &mut [u8],
+) -> Answer
+    ensures { λ r. ⌜ Framed old (now (waiting .entry)) (now (posted .entry)) (now (sent .entry)) (now (dropped .entry)) (now (kept .entry)) (now (withdrawn .entry)) (now (schedule .entry)) (now (waiting .exit)) (now (sent .exit)) (now (kept .exit)) (now (withdrawn .exit)) (now (schedule .exit)) r ⌝ }
+{
+    let v = frame_verdict(
+        old,
+        waiting,
+        posted,
+        sent,
+        dropped,
+        kept.len(),
+        withdrawn.len(),
+        schedule.len(),
+    );
+    if let Verdict::Refused { refusal } = v {
+        return Answer::Refused { refusal: refusal };
+    }
+    let a = write_whole(
+        old.nodes,
+        old.slots,
+        old.rule,
+        waiting,
+        kept,
+        withdrawn,
+        schedule,
+    );
+    let n = old.nodes as usize;
+    dequeue(n, kept, waiting);
+    add(n, sent, kept);
+    a
+}
+
+// What the record holds then.
+pub fn frame_run(old: Run, a: Answer) -> Run
+    requires { ⌜ (verdictOf a ≡ Accepted → old .frames < 1000000) ⌝ }
+    ensures { λ r. ⌜ r ≡ frameRun old (verdictOf a) ⌝ }
+{
+    match a {
+        Answer::Planned {
+            kept: _,
+            refused: _,
+            reconfigurations: _,
+        } => Run {
+            nodes: old.nodes,
+            slots: old.slots,
+            limit: old.limit,
+            rule: old.rule,
+            posts: old.posts,
+            frames: old.frames + 1,
+        },
+        Answer::Refused { refusal: _ } => old,
+    }
+}

@@ -1,0 +1,87 @@
+// What `fresh` does: a run starts.
+use crate::checks::ranges;
+use crate::checks::short;
+use crate::record::Run;
+use books::amounts;
+use books::queues;
+use star::refusals::Refusal;
+use star::refusals::Verdict;
+ghost use mathlib.Core.Path.{_≡_};
+ghost use Rattle.calls.specs.Runs.{freshVerdict, Freshened, freshRun};
+
+// Which refusal is given, if any; the last four numbers say how many cells the tables have.
+fn fresh_verdict(
+    nodes: u32,
+    slots: u32,
+    limit: u32,
+    rule: u32,
+    waiting: usize,
+    posted: usize,
+    sent: usize,
+    dropped: usize,
+) -> Verdict
+    ensures { λ v. ⌜ v ≡ freshVerdict nodes slots limit rule waiting posted sent dropped ⌝ }
+{
+    let v = ranges(nodes, slots, rule, limit);
+    let Verdict::Accepted = v else {
+        return v;
+    };
+    if short(nodes as usize, waiting, posted, sent, dropped) {
+        return Verdict::Refused {
+            refusal: Refusal::TableShort,
+        };
+    }
+    v
+}
+
+// What is answered, and what the tables hold then.
+pub fn fresh_on(
+    old: Run,
+    nodes: u32,
+    slots: u32,
+    limit: u32,
+    rule: u32,
+    waiting: &mut [u32],
+    posted: &mut [u64],
+    sent: &mut [u64],
+    dropped: &mut [u64],
+) -> Verdict
+    ensures { λ v. ⌜ Freshened old nodes slots limit rule (now (waiting .entry)) (now (posted .entry)) (now (sent .entry)) (now (dropped .entry)) (now (waiting .exit)) (now (posted .exit)) (now (sent .exit)) (now (dropped .exit)) v ⌝ }
+{
+    let v = fresh_verdict(
+        nodes,
+        slots,
+        limit,
+        rule,
+        waiting.len(),
+        posted.len(),
+        sent.len(),
+        dropped.len(),
+    );
+    let Verdict::Accepted = v else {
+        return v;
+    };
+    let n = nodes as usize;
+    queues::clear(n, waiting);
+    amounts::clear(n, posted);
+    amounts::clear(n, sent);
+    amounts::clear(n, dropped);
+    v
+}
+
+// What the record holds then.
+pub fn fresh_run(old: Run, v: Verdict, nodes: u32, slots: u32, limit: u32, rule: u32) -> Run
+    ensures { λ r. ⌜ r ≡ freshRun old nodes slots limit rule v ⌝ }
+{
+    match v {
+        Verdict::Accepted => Run {
+            nodes: nodes,
+            slots: slots,
+            limit: limit,
+            rule: rule,
+            posts: 0,
+            frames: 0,
+        },
+        Verdict::Refused { refusal: _ } => old,
+    }
+}

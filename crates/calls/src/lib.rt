@@ -1,0 +1,7 @@
+// What each call of a run answers, on the record's values and the tables: the checks, what the tables hold then (`.._on`), and what the record is
+// then (`.._run`).
+pub mod checks;
+pub mod frame;
+pub mod fresh;
+pub mod post;
+pub mod record;
