@@ -45,7 +45,7 @@ fn kept_by_both(star: &Star) -> [Vec<u32>; 2] {
     kept
 }
 
-/// The largest number of reconfigurations met, with the fewest possible for that matrix.
+/// The largest number of reconfigurations met, and what no schedule of that matrix stays below.
 #[derive(Default)]
 struct Most {
     counted: usize,

@@ -1,6 +1,6 @@
 //! The proved planner's inner layers, called from Rust for the comparisons and the benchmark; no
 //! part of the product. A layer is proved for callers who give what it asks. That is tested here,
-//! and a call without it panics.
+//! and a call without it panics; only what [`keep`] asks of `withdrawn` is left to the caller.
 //!
 //! Tables as everywhere: pair (i,j) is cell i×N+j, lines 0 to N−1 are the rows, line N+j is column
 //! j. A longer table than needed is accepted; its extra cells are neither read nor changed.

@@ -3,7 +3,7 @@
 //! star where the library withdraws at the critical pairs. It is meant to be compared with, so it
 //! is plain before it is fast.
 //!
-//! Read in this order: the words of the paper, the two rules, schedules, the entries.
+//! Read in this order: document 01's words, the two rules, schedules, the entries.
 
 pub mod limits;
 pub mod matrix;

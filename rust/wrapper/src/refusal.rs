@@ -43,7 +43,7 @@ impl Refusal {
         })
     }
 
-    /// The number of the refusal in document 01.
+    /// The number of the refusal, 1 to 9.
     pub fn number(self) -> u32 {
         match self {
             Refusal::Nodes => 1,
