@@ -11,13 +11,6 @@ use lib.Seq.{getD-set-same, getD-set-other, drop-set-lt, drop-drop}
 use Rattle.star.specs.Tables.{Square}
 use Rattle.arrays.specs.Arrays.{Frame, Slot}
 
--- one place more is as the rule says
-pub stored-more : (rule : ℕ → ℕ) (x : List ℕ) (k b : ℕ) → k < length x → b ≡ rule k → ((u : ℕ) → u < k → getD x u 0 ≡ rule u) → (u : ℕ) → u < k + 1 → getD (set x k b) u 0 ≡ rule u
-stored-more rule x k b lt e all =
-    below-more (λ (u : ℕ). getD (set x k b) u 0 ≡ rule u) k
-    (λ u hu. getD-set-other x k u b 0 (λ q. omega arith) ∙ all u hu)
-    (getD-set-same x k b 0 lt ∙ e)
-
 pub square-kept : {n : ℕ} (x y : List ℕ) → length y ≡ length x → Square n x → Square n y
 square-kept x y e h = record { nodes = h .nodes; cells = omega (arith, h .cells) }
 

@@ -1,5 +1,5 @@
 // What placing works on, read and written in one place each: short lists, tables of 16-bit numbers, the slots of a schedule.
-// No index of a pair or of a slot is computed anywhere else above.
+// Nowhere else in placing is an index of a pair or of a slot computed.
 pub mod frames;
 pub mod lists;
 pub mod tables;

@@ -1,3 +1,2 @@
--- The laws of a run's books and of tables written front to back.
-pub mod Fills
+-- The laws of a run's books.
 pub mod Agreements

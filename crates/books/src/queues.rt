@@ -1,23 +1,9 @@
 // The queues: what arrives and finds room waits, what finds none is dropped, what is kept leaves.
 ghost use mathlib.Core.Path.{_≡_};
 ghost use Prim.Native.Nat.{_+_, _-_, _*_, _≤_, min};
-ghost use lib.ListN.{getD, replicate};
+ghost use lib.ListN.{getD};
 ghost use Rattle.sums.specs.Tables.{tab, written};
-ghost use Rattle.star.specs.Tables.{Square};
 ghost use Rattle.books.specs.Rooms.{Arrives, Drops, Takes};
-
-// Empties the queue of each pair.
-pub fn clear(n: usize, waiting: &mut [u32])
-    requires { ⌜ Square n (now waiting) ⌝ }
-    ensures { λ _. ⌜ now (waiting .exit) ≡ written (n * n) (replicate (n * n) 0) (now (waiting .entry)) ⌝ }
-{
-    let cells = n * n;
-    let mut p = 0;
-    while p < cells {
-        waiting[p] = 0;
-        p += 1;
-    }
-}
 
 // What waits in one queue after an arrival.
 fn waits(limit: u32, waiting: u32, arrival: u32) -> u32

@@ -42,6 +42,7 @@ unfoldable pub cleared : (n : ℕ) (table : List ℕ) (v : Verdict) → List ℕ
 cleared n table Accepted = written (n * n) (replicate (n * n) 0) table
 cleared n table (Refused r) = table
 
+-- what `fresh` promises of its answer and the four tables; `freshRun` says it of the record
 pub record Freshened (old : Run) (n l limit rule : ℕ) (waiting posted sent dropped waiting' posted' sent' dropped' : List ℕ) (v : Verdict) : Type 0 where
   pub answer : v ≡ freshVerdict n l limit rule (length waiting) (length posted) (length sent) (length dropped)
   pub now-waiting : waiting' ≡ cleared n waiting v
@@ -87,6 +88,7 @@ postWaiting old arrivals waiting Accepted =
     written (old .nodes * old .nodes) (tab (old .nodes * old .nodes) (λ p. min (getD waiting p 0 + getD arrivals p 0) (old .limit))) waiting
 postWaiting old arrivals waiting (Refused r) = waiting
 
+-- what `post` promises of its answer and the tables that it writes; `postRun` says it of the record
 pub record Posted (old : Run) (arrivals waiting posted sent dropped waiting' posted' dropped' : List ℕ) (v : Verdict) : Type 0 where
   pub answer : v ≡ postVerdict old arrivals waiting posted sent dropped
   pub now-waiting : waiting' ≡ postWaiting old arrivals waiting v

@@ -56,7 +56,7 @@ fn frame_verdict(
     )
 }
 
-// What is answered, and what the tables hold then: the queues are planned, and what is kept leaves them.
+// A frame on the tables: what is answered, and what they hold then. The queues are planned, and what is kept leaves them.
 pub fn frame_on(
     old: Run,
     waiting: &mut [u32],
@@ -97,7 +97,7 @@ pub fn frame_on(
     a
 }
 
-// What the record holds then.
+// What the record holds after a frame.
 pub fn frame_run(old: Run, a: Answer) -> Run
     requires { ⌜ (verdictOf a ≡ Accepted → old .frames < 1000000) ⌝ }
     ensures { λ r. ⌜ r ≡ frameRun old (verdictOf a) ⌝ }

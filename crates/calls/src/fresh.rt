@@ -3,9 +3,9 @@ use crate::checks::ranges;
 use crate::checks::short;
 use crate::record::Run;
 use books::amounts;
-use books::queues;
 use star::refusals::Refusal;
 use star::refusals::Verdict;
+use star::tables;
 ghost use mathlib.Core.Path.{_≡_};
 ghost use Rattle.calls.specs.Runs.{freshVerdict, Freshened, freshRun};
 
@@ -34,7 +34,7 @@ fn fresh_verdict(
     v
 }
 
-// What is answered, and what the tables hold then.
+// A fresh start on the tables: what is answered, and what they hold then.
 pub fn fresh_on(
     old: Run,
     nodes: u32,
@@ -62,14 +62,14 @@ pub fn fresh_on(
         return v;
     };
     let n = nodes as usize;
-    queues::clear(n, waiting);
+    tables::clear(n, waiting);
     amounts::clear(n, posted);
     amounts::clear(n, sent);
     amounts::clear(n, dropped);
     v
 }
 
-// What the record holds then.
+// What the record holds after a fresh start.
 pub fn fresh_run(old: Run, v: Verdict, nodes: u32, slots: u32, limit: u32, rule: u32) -> Run
     ensures { λ r. ⌜ r ≡ freshRun old nodes slots limit rule v ⌝ }
 {

@@ -62,7 +62,7 @@ fn post_verdict(
     b
 }
 
-// What is answered, and what the tables hold then.
+// A post on the tables: what is answered, and what they hold then.
 pub fn post_on(
     old: Run,
     arrivals: &[u32],
@@ -84,7 +84,7 @@ pub fn post_on(
     v
 }
 
-// What the record holds then.
+// What the record holds after a post.
 pub fn post_run(old: Run, v: Verdict) -> Run
     requires { ⌜ (v ≡ Accepted → old .posts < 1000000) ⌝ }
     ensures { λ r. ⌜ r ≡ postRun old v ⌝ }

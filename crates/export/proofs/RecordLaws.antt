@@ -1,4 +1,4 @@
--- What a call of a run promises of the record that was read, it promises of the six numbers that were lent.
+-- What a call of a run promises of the record that was read, it promises of the six numbers that were lent. Assumes nothing.
 use Prim.Native.Nat.{ℕ}
 use mathlib.Core.Path.{_≡_, subst}
 use mathlib.Core.List.{List}

@@ -63,7 +63,7 @@ pub extern "C" fn gyodaebeun_plan(
     star::refusals::number(verdict(a))
 }
 
-// `run::fresh::fresh` with the record as six numbers; returns the number of the refusal, 0 where the call is accepted, and stores its place.
+// The entry `fresh` with the record as six numbers; returns the number of the refusal, 0 where the call is accepted, and stores its place.
 #[no_mangle]
 pub extern "C" fn gyodaebeun_fresh(
     run: &mut [u32; 6],
@@ -96,7 +96,7 @@ pub extern "C" fn gyodaebeun_fresh(
     star::refusals::number(v)
 }
 
-// `run::post::post` with the record as six numbers; returns the number of the refusal, 0 where the call is accepted, and stores its place.
+// The entry `post` with the record as six numbers; returns the number of the refusal, 0 where the call is accepted, and stores its place.
 #[no_mangle]
 pub extern "C" fn gyodaebeun_post(
     run: &mut [u32; 6],
@@ -116,7 +116,7 @@ pub extern "C" fn gyodaebeun_post(
     star::refusals::number(v)
 }
 
-// `run::frame::frame` with the record as six numbers; returns the number of the refusal, 0 where the call is accepted, and stores its place,
+// The entry `frame` with the record as six numbers; returns the number of the refusal, 0 where the call is accepted, and stores its place,
 // the kept total, the refused total and the reconfigurations.
 #[no_mangle]
 pub extern "C" fn gyodaebeun_frame(

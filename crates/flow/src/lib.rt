@@ -32,7 +32,7 @@ fn largest_on(
 }
 
 // Of all matrices that are at most `bound` at each cell and whose line sums are at most `limit`, one with the greatest total, in `a`; and marks
-// that prove it: no matrix exceeds their cut, and this one meets it. What `a` and `marks` held before does not matter.
+// that prove it: no matrix exceeds their cut, and this one meets it. What their first n * n and 2n cells held before does not matter; further cells stay as they are.
 pub fn largest(n: usize, bound: &[u32], limit: &[u32], a: &mut [u32], marks: &mut [u8])
     requires { ⌜ Bounded n (now bound) (now limit) (now a) (now marks) ⌝ }
     ensures { λ _. ⌜ Certified n (now (bound .entry)) (now (limit .entry)) (now (a .entry)) (now (marks .entry)) (now (a .exit)) (now (marks .exit)) ⌝ }

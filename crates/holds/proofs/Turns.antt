@@ -9,9 +9,10 @@ use Rattle.sums.specs.Sums.{hit}
 use Rattle.sums.specs.Tables.{cell}
 use Rattle.sums.proofs.Sums.{hit-same, hit-other}
 use Rattle.sums.proofs.Cases.{by-eq, by-lt}
+use Rattle.sums.proofs.Fills.{set-more}
 use Rattle.sums.proofs.Tables.{cell-lt, set-here, set-row, set-col}
 use Rattle.arrays.specs.Arrays.{Slot}
-use Rattle.arrays.proofs.Stores.{stored-more, beyond-kept, beyond-more}
+use Rattle.arrays.proofs.Stores.{beyond-kept, beyond-more}
 use Rattle.holds.specs.Holds.{lasting, heardFrom, CanLast, CanHear, CanTake, Taken, Wrote}
 
 -- ---- how long a pair lasts, and what is heard of it
@@ -87,7 +88,7 @@ pub hear-step : {n : ℕ} {due source bytes0 bytes : List ℕ} {j b : ℕ} → C
 hear-step {n = n} {due = due} {source = source} {bytes = bytes} {j = j} {b = b} c g lt e = record {
   upto = omega arith;
   len = length-set bytes j b ∙ g .len;
-  all = stored-more (λ u. heardFrom (cell n due (getD source u 0) u) (getD source u 0)) bytes j b (omega (arith, g .len, c .outs)) e (g .all);
+  all = set-more (λ u. heardFrom (cell n due (getD source u 0) u) (getD source u 0)) bytes j b (omega (arith, g .len, c .outs)) e (g .all);
 }
 
 -- ---- h is taken from the pairs of the destinations below j

@@ -10,18 +10,14 @@ use Rattle.sums.proofs.Sums.{sum-ext, sum-at, sum-bump, hit-same, hit-other}
 use Rattle.sums.proofs.Cases.{by-eq, by-lt}
 use Rattle.sums.proofs.Tables.{place-split}
 use Rattle.star.specs.Lines.{lineSum}
-use Rattle.star.proofs.LineLaws.{row-sum, column-sum}
+use Rattle.star.proofs.LineLaws.{row-sum, column-sum, cell-in-row}
 
--- a cell is at most the sum of its row
-pub cell-row : (n : ℕ) (v : List ℕ) (i j : ℕ) → i < n → j < n → cell n v i j ≤ lineSum n v i
-cell-row n v i j hi hj = omega (arith, row-sum n v i hi, sum-at n (λ u. cell n v i u) j hj)
-
--- and so is what stands at its place
+-- what stands at a place is at most the sum of its row
 pub place-row-sum : (n : ℕ) (v : List ℕ) (p : ℕ) (b : ℕ) → ((ℓ : ℕ) → ℓ < 2 * n → lineSum n v ℓ ≤ b) → p < n * n → getD v p 0 ≤ b
 unfolding cell
 place-row-sum n v p b all lt =
     let q = place-split n p lt in
-    omega (arith, ap (λ (x : ℕ). getD v x 0) (q .1 .1), cell-row n v (p / n) (p % n) (q .0) (q .1 .0), all (p / n) (omega (arith, q .0)))
+    omega (arith, ap (λ (x : ℕ). getD v x 0) (q .1 .1), cell-in-row n v (p / n) (p % n) (q .0) (q .1 .0), all (p / n) (omega (arith, q .0)))
 
 -- one cell has g more
 module _ (n : ℕ) (v w : List ℕ) (i j g : ℕ) (hi : i < n) (hj : j < n)

@@ -12,13 +12,14 @@ use Rattle.sums.specs.Sums.{sumTo, hit}
 use Rattle.sums.specs.Tables.{cell}
 use Rattle.sums.proofs.Sums.{sum-ext, sum-add, sum-at, sum-all-zero, hit-same, hit-other}
 use Rattle.sums.proofs.Cases.{by-eq, by-lt}
+use Rattle.sums.proofs.Fills.{set-more}
 use Rattle.sums.proofs.Tables.{cell-lt, set-here, set-row, set-col}
 use Rattle.star.specs.Tables.{Square, Demands}
 use Rattle.star.specs.Lines.{lineSum}
-use Rattle.star.proofs.LineLaws.{total-rows, total-columns, line-ext}
-use Rattle.arrays.proofs.Stores.{stored-more, square-kept}
+use Rattle.star.proofs.LineLaws.{total-rows, total-columns, line-ext, cell-in-row}
+use Rattle.arrays.proofs.Stores.{square-kept}
 use Rattle.idle.specs.Idle.{Small, Copied, LineSums, Largest, Lacking, Lacks, CanPad, Fuller, PaddedAt, PaddedRow, PaddedAll, Padded}
-use Rattle.idle.proofs.LineStores.{cell-row, place-row-sum, line-more}
+use Rattle.idle.proofs.LineStores.{place-row-sum, line-more}
 
 -- ---- the matrix, copied up to p
 pub record Copying (n : ℕ) (kept table0 table : List ℕ) (p : ℕ) : Type 0 where
@@ -30,7 +31,7 @@ pub copy-step : {n : ℕ} {kept table0 table : List ℕ} {p : ℕ} → Square n 
 copy-step {kept = kept} {table = table} {p = p} h g lt = record {
   within = omega arith;
   len = length-set table p (getD kept p 0) ∙ g .len;
-  all = stored-more (λ q. getD kept q 0) table p (getD kept p 0) (omega (arith, g .len, h .cells)) refl (g .all);
+  all = set-more (λ q. getD kept q 0) table p (getD kept p 0) (omega (arith, g .len, h .cells)) refl (g .all);
 }
 
 pub copy-end : {n : ℕ} {kept table0 table : List ℕ} {p : ℕ} → Copying n kept table0 table p → n * n ≤ p → Copied n kept table
@@ -54,7 +55,7 @@ pub sums-step : {n : ℕ} {kept sums0 sums : List ℕ} {m b : ℕ} → 2 * n ≤
 sums-step {n = n} {kept = kept} {sums = sums} {m = m} {b = b} fits g lt e = record {
   within = omega arith;
   len = length-set sums m b ∙ g .len;
-  all = stored-more (lineSum n kept) sums m b (omega (arith, g .len)) e (g .all);
+  all = set-more (lineSum n kept) sums m b (omega (arith, g .len)) e (g .all);
 }
 
 -- ---- the largest of the sums below m
@@ -104,7 +105,7 @@ module _ {n : ℕ} {v lack : List ℕ} (c : CanPad n v lack) {i j : ℕ} (hi : i
     (er : row ≡ getD lack i 0) (ec : column ≡ getD lack (n + j) 0) (ei : idle ≡ min row column) where
   -- with its idle slots the pair has no more than r
   pub pad-small : cell n v i j + idle ≤ 1024
-  pad-small = omega (arith, cell-row n v i j hi hj, c .lacks .lines i (omega arith), c .small)
+  pad-small = omega (arith, cell-in-row n v i j hi hj, c .lacks .lines i (omega arith), c .small)
 
   first-other : (ℓ : ℕ) → (ℓ ≡ i → ⊥) → getD (set lack i (row - idle)) ℓ 0 ≡ getD lack ℓ 0
   first-other ℓ ne = getD-set-other lack i ℓ (row - idle) 0 ne

@@ -75,11 +75,11 @@ pub extern "C" fn lab_place(n: usize, l: usize, kept: &[u32], schedule: &mut [u8
     slots::placing::place(n, l, kept, schedule);
 }
 
-// `slots::changes::reconfigurations`.
+// `changes::reconfigurations`.
 #[no_mangle]
 pub extern "C" fn lab_reconfigurations(n: usize, l: usize, schedule: &[u8]) -> u32
     requires { ⌜ Frame n l (now schedule) ⌝ }
     ensures { λ r. ⌜ r ≡ reconfigurations n l (now (schedule .entry)) ⌝ }
 {
-    slots::changes::reconfigurations(n, l, schedule)
+    changes::reconfigurations(n, l, schedule)
 }

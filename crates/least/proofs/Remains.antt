@@ -67,11 +67,6 @@ module _ {n : ℕ} {cap d a : List ℕ} (w : Withdrawn n cap d a) where
   pub excess-parts : (ℓ : ℕ) → ℓ < 2 * n → excess n cap d ℓ ≡ lineSum n a ℓ + (lineSum n (left n d a) ℓ - getD cap ℓ 0)
   excess-parts ℓ h = omega (arith, excess-is n cap d ℓ, left-line ℓ h, w .lines ℓ h)
 
-  -- a line that overflows in D still fills its capacity in E
-  pub overflowing-stays-full : (ℓ : ℕ) → ℓ < 2 * n → overflows n cap d ℓ ≡ true → getD cap ℓ 0 ≤ lineSum n (left n d a) ℓ
-  overflowing-stays-full ℓ h e =
-      omega (arith, excess-is n cap d ℓ, left-line ℓ h, w .lines ℓ h, ltb-true (getD cap ℓ 0) (lineSum n d ℓ) (sym (overflows-is n cap d ℓ) ∙ e))
-
 -- ---- lines too long
 pub longer-is : (n : ℕ) (cap e : List ℕ) (ℓ : ℕ) → longer n cap e ℓ ≡ true → getD cap ℓ 0 < lineSum n e ℓ
 unfolding longer

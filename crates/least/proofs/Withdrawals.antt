@@ -48,9 +48,6 @@ module _ (n : ℕ) (cap d : List ℕ) where
     }
 
   module _ {a : List ℕ} where
-    pub greatest-is-largest : Greatest n cap d a → Largest n d (tab (2 * n) (excess n cap d)) a
-    greatest-is-largest g = record { feasible = withdrawn-is-feasible (g .withdrawn); most = λ b f. g .most b (feasible-is-withdrawn f) }
-
     pub largest-is-greatest : Largest n d (tab (2 * n) (excess n cap d)) a → Greatest n cap d a
     largest-is-greatest g = record { withdrawn = feasible-is-withdrawn (g .feasible); most = λ b w. g .most b (withdrawn-is-feasible w) }
 

@@ -1,5 +1,4 @@
--- The laws of the input list and of the printed text, and examples by computation.
+-- The laws of the printed text and of the order of decisions, and examples by computation.
 pub mod Examples
-pub mod InputLaws
 pub mod TextLaws
 pub mod OutcomeLaws

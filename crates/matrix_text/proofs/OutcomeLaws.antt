@@ -19,30 +19,21 @@ use Rattle.star.specs.declared.refusals.Refusal.the-variants.{Nodes, Slots, Rul
 use Rattle.star.specs.declared.refusals.Verdict.the-variants as verdict
 use Rattle.star.specs.Refusals.{refuse, nodesOut, slotsOut, ruleOut, short, someCell, firstAbove, refusalNumber, refusalPlace}
 use Rattle.star.specs.Lines.{total, wholeFrame}
-use Rattle.star.proofs.RefusalLaws.{fires, passes, neither}
+use Rattle.star.proofs.RefusalLaws.{fires, passes, neither, in-its-range}
 use Rattle.planner.specs.declared.answers.Answer.{Answer}
 use Rattle.planner.specs.declared.answers.Answer.the-variants.{Planned, Refused}
 use Rattle.planner.specs.Plans.{verdictOf, keptTotal, refusedTotal, changes, planVerdict, Plan, PlanResult}
 use Rattle.matrix_text.specs.Text.{badInput, refusalText, planText}
 use Rattle.matrix_text.specs.Outcomes.{Outcome, BadInput, Refuses, Plans, orElse, judge, judgeList, outcome, outcomeText, Prints, Answered}
-use Rattle.matrix_text.specs.Writes.{Stored, Holds, Appended, refusedText, answerText, Printable, Judged}
-use Rattle.matrix_text.specs.Input.{listOf}
+use Rattle.number_list.specs.Reads.{Stored, Holds}
+use Rattle.matrix_text.specs.Writes.{Appended, refusedText, answerText, Printable, Judged}
+use Rattle.number_list.specs.Input.{listOf}
 use Rattle.matrix_text.proofs.TextLaws.{appended-front}
 
 -- ---- tests
-or-right : (a b : Bool) → (a || b) ≡ false → b ≡ false
-or-right true b e = absurd (let z : _≡_ {A = ℕ} 0 1 = cc in omega arith)
-or-right false b e = e
-
 or-true : (a : Bool) → (a || true) ≡ true
 or-true true = refl
 or-true false = refl
-
-nodes-most : (n : ℕ) → nodesOut n ≡ false → n ≤ 64
-nodes-most n e = ltb-false 64 n (or-right (ltb n 1) (ltb 64 n) e)
-
-slots-most : (l : ℕ) → slotsOut l ≡ false → l ≤ 1024
-slots-most l e = ltb-false 1024 l (or-right (ltb l 1) (ltb 1024 l) e)
 
 taken : {b : Bool} (x y : Outcome) → b ≡ true → orElse b x y ≡ x
 taken x y e = rw e refl
@@ -117,8 +108,8 @@ module _ (n l rule : ℕ) (d kept withdrawn schedule kept' withdrawn' schedule' 
     -- no table is short
     tables : (short (length kept) (n * n) || short (length withdrawn) (n * n) || short (length schedule) (l * n)) ≡ false
     tables =
-        let cells = mul-small n n (nodes-most n e1) (nodes-most n e1) in
-        let bytes : l * n ≤ 1024 * 64 = mul-le-mul (slots-most l e2) (nodes-most n e1) in
+        let cells = mul-small n n (in-its-range 1 64 n e1 .1) (in-its-range 1 64 n e1 .1) in
+        let bytes : l * n ≤ 1024 * 64 = mul-le-mul (in-its-range 1 1024 l e2 .1) (in-its-range 1 64 n e1 .1) in
         neither (short (length kept) (n * n) || short (length withdrawn) (n * n)) (short (length schedule) (l * n))
         (neither (short (length kept) (n * n)) (short (length withdrawn) (n * n)) (le-ltb (length kept) (n * n) (omega arith)) (le-ltb (length withdrawn) (n * n) (omega arith)))
         (le-ltb (length schedule) (l * n) (omega arith))
@@ -160,7 +151,7 @@ printable {n = n} p size = record {
   square = λ v.
       by-test (nodesOut n)
       (λ e. absurd (let f : verdict.Refused Nodes ≡ verdict.Accepted = fires _ e ∙ sym (p .answer) ∙ v in let z : _≡_ {A = ℕ} 0 1 = cc in omega arith))
-      (λ e. record { nodes = nodes-most n e; cells = omega (arith, mul-small n n (nodes-most n e) (nodes-most n e)) });
+      (λ e. record { nodes = in-its-range 1 64 n e .1; cells = omega (arith, mul-small n n (in-its-range 1 64 n e .1) (in-its-range 1 64 n e .1)) });
 }
 
 -- ---- any count
@@ -191,7 +182,7 @@ module _ (n l rule : ℕ) (lent kept withdrawn schedule kept' withdrawn' schedul
         (λ e2. by-test (ruleOut rule)
         (λ e3. early Rule refl (p .answer ∙ sym (passes Nodes e1 (passes Slots e2 (fires _ e3)))) (left _ e1 (left _ e2 (taken _ _ e3))))
         (λ e3. by-test (eqb (length d) (n * n))
-        (λ whole. subst (λ t. Prints (judge (n ∷ l ∷ rule ∷ d)) (answerText t n l rule kept' r)) (sym whole) (whole-prints n l rule d kept withdrawn schedule kept' withdrawn' schedule' r lk lw ls (subst (λ s. PlanResult n l rule s kept withdrawn schedule kept' withdrawn' schedule' r) (same (nodes-most n e1) (eqb-true (length d) (n * n) whole)) p) e1 e2 e3 whole))
+        (λ whole. subst (λ t. Prints (judge (n ∷ l ∷ rule ∷ d)) (answerText t n l rule kept' r)) (sym whole) (whole-prints n l rule d kept withdrawn schedule kept' withdrawn' schedule' r lk lw ls (subst (λ s. PlanResult n l rule s kept withdrawn schedule kept' withdrawn' schedule' r) (same (in-its-range 1 64 n e1 .1) (eqb-true (length d) (n * n) whole)) p) e1 e2 e3 whole))
         (λ wrong. prints-bad _ _ (left _ e1 (left _ e2 (left _ e3 (rw wrong refl)))) (ap (λ t. answerText t n l rule kept' r) wrong ∙ late _ _ _ _ (p .answer ∙ sym (passes Nodes e1 (passes Slots e2 (passes Rule e3 refl)))))))))
 
 -- ---- the numbers that a table stores

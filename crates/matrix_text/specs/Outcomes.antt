@@ -12,7 +12,7 @@ use Rattle.star.specs.declared.refusals.Refusal.the-variants.{Nodes, Slots, Rul
 use Rattle.star.specs.Refusals.{nodesOut, slotsOut, ruleOut, someCell, firstAbove, refusalNumber, refusalPlace}
 use Rattle.star.specs.Lines.{total, wholeFrame}
 use Rattle.planner.specs.Plans.{Plan}
-use Rattle.matrix_text.specs.Input.{listOf}
+use Rattle.number_list.specs.Input.{listOf}
 use Rattle.matrix_text.specs.Text.{badInput, refusalText, planText}
 
 -- what the program answers an input with

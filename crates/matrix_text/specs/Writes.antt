@@ -1,9 +1,8 @@
--- What the functions that read the list and write the text promise.
-use Prim.Native.Nat.{ℕ, _+_, _<_}
+-- What the functions that write the text promise.
+use Prim.Native.Nat.{ℕ, _+_}
 use mathlib.Core.Path.{_≡_}
 use mathlib.Core.Bool.{Bool, true, false, _||_}
-use mathlib.Core.List.{List, [], _∷_, _++_}
-use mathlib.Core.Option.{none, some}
+use mathlib.Core.List.{List, _++_}
 use lib.Dec.{leb}
 use lib.ListN.{length, take, drop}
 use Rattle.star.specs.declared.refusals.Refusal.{Refusal}
@@ -13,32 +12,9 @@ use Rattle.star.specs.Tables.{Square}
 use Rattle.planner.specs.declared.answers.Answer.{Answer}
 use Rattle.planner.specs.declared.answers.Answer.the-variants.{Planned, Refused}
 use Rattle.planner.specs.Plans.{verdictOf}
-use Rattle.matrix_text.specs.declared.input.Listed.{Listed}
-use Rattle.matrix_text.specs.declared.input.Listed.the-variants.{Numbers, Junk}
-use Rattle.matrix_text.specs.Input.{listOf}
+use Rattle.number_list.specs.Reads.{Stored}
 use Rattle.matrix_text.specs.Text.{badInput, refusalText, planText}
 use Rattle.matrix_text.specs.Outcomes.{judge, Prints}
-
--- the numbers counted, of which the table holds as many as it has cells for
-pub record Stored (table : List ℕ) (count : ℕ) (numbers : List ℕ) : Type 0 where
-  pub counted : count ≡ length numbers
-  pub held : take (length table) numbers ≡ take count table
-
--- the end of a word: where it has digits, their number comes after those that the table stores
-pub record Ended (table table' : List ℕ) (count count' digits value : ℕ) : Type 0 where
-  pub empty : digits ≡ 0 → (count' ≡ count) × (table' ≡ table)
-  pub number : 0 < digits → (numbers : List ℕ) → Stored table count numbers → Stored table' count' (numbers ++ (value ∷ []))
-
--- a list that the table stores
-pub record Holds (input table : List ℕ) (count : ℕ) : Type 0 where
-  pub numbers : List ℕ
-  pub listed : listOf input ≡ some numbers
-  pub stored : Stored table count numbers
-
--- what reading an input finds: a list that the table stores, or no list
-abbrev pub Reads : (input table : List ℕ) → Listed → Type 0
-Reads input table Junk = listOf input ≡ none
-Reads input table (Numbers count) = Holds input table count
 
 -- the text stands from `at` on, up to the place given back; all else is as before
 pub record Appended (out out' : List ℕ) (at at' : ℕ) (text : List ℕ) : Type 0 where

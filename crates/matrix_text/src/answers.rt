@@ -1,9 +1,9 @@
 // The answer to an input, in document 01's order.
-use crate::input::Listed;
-use crate::input::read;
 use crate::text::put_bad_input;
 use crate::text::put_plan;
 use crate::text::put_refusal;
+use number_list::Listed;
+use number_list::read;
 use planner::answers::Answer;
 use planner::plans::plan;
 use star::refusals::Refusal;
@@ -18,7 +18,7 @@ ghost use Rattle.matrix_text.specs.Text.{room};
 ghost use Rattle.matrix_text.specs.Outcomes.{Answered};
 ghost use Rattle.matrix_text.specs.Writes.{Appended, refusedText, answerText, Printable, Judged};
 
-// The bytes that the longest text takes.
+// Bytes enough for the longest text.
 pub const ROOM: usize = 45141;
 
 // Prints a refusal of `plan`; `whole` says that the count of demands is right.

@@ -1,4 +1,3 @@
 // The matrix program's work: from the bytes that it reads to the bytes that it writes.
 pub mod answers;
-pub mod input;
 pub mod text;

@@ -13,7 +13,7 @@ use lib.Bits.{bitAnd, bitOr, bitXor, differ, and-step, or-step, xor-step, and-ma
 use lib.Pow.{shl-exact, pow-pos}
 use lib.Count.{trailingZeros, under, trailing-le}
 use Rattle.sums.proofs.Cases.{by-eq}
-use Rattle.nodes.specs.Sets.{member, Has, With, WithWhere, Without, First}
+use Rattle.nodes.specs.Sets.{member, With, WithWhere, Without, First}
 
 bit-case : (x : ℕ) → x < 2 → (x ≡ 0) ⊎ (x ≡ 1)
 bit-case x h = by-eq x 0 (λ e. inl e) (λ ne. inr (omega arith))
@@ -129,21 +129,6 @@ without-law s i h =
       other = λ j ne.
           let off : member j ((1 * 2 ^ i) % 2 ^ 64) ≡ 0 = ap (member j) (one-is i h) ∙ one-else j i ne in
           omega (arith, rw off at (minus-law s ((1 * 2 ^ i) % 2 ^ 64) j));
-    }
-
-shift-member : (i s : ℕ) → (s / 2 ^ i) % 2 ≡ member i s
-unfolding member
-shift-member zero s = let e : s / 1 ≡ s = omega arith in ap (λ (x : ℕ). x % 2) e
-shift-member (suc i) s = ap (λ (x : ℕ). (s / x) % 2) (pow-succ' 2 i) ∙ ap (λ (x : ℕ). x % 2) (sym (div-div-eq-div-mul s 2 (2 ^ i))) ∙ shift-member i (s / 2)
-
-pub has-law : (s i : ℕ) → Has s i (eqb (bitAnd (s / 2 ^ i) 1) 1)
-has-law s i =
-    let e : bitAnd (s / 2 ^ i) 1 ≡ member i s = and-mask (s / 2 ^ i) 1 ∙ shift-member i s in
-    record {
-      there = λ t. sym e ∙ eqb-true (bitAnd (s / 2 ^ i) 1) 1 t;
-      missing = λ f.
-          let ne : (member i s ≡ 1 → ⊥) = λ q. eqb-false (bitAnd (s / 2 ^ i) 1) 1 f (e ∙ q) in
-          omega (arith, member-lt i s);
     }
 
 module _ (k s : ℕ) where

@@ -19,10 +19,6 @@ pub record None (r : ℕ) : Type 0 where
 pub record All (r : ℕ) : Type 0 where
   pub in' : (i : ℕ) → i < 64 → member i r ≡ 1
 
-pub record Has (s i : ℕ) (r : Bool) : Type 0 where
-  pub there : r ≡ true → member i s ≡ 1
-  pub missing : r ≡ false → member i s ≡ 0
-
 pub record With (s i r : ℕ) : Type 0 where
   pub here : member i r ≡ 1
   pub other : (j : ℕ) → (j ≡ i → ⊥) → member j r ≡ member j s

@@ -1,7 +1,7 @@
 // A set of up to 64 nodes as one number: node i is in it where binary digit i is 1. The only bit arithmetic of the planner;
 // every contract speaks of members alone.
 ghost use Prim.Native.Nat.{_<_};
-ghost use Rattle.nodes.specs.Sets.{None, All, Has, With, WithWhere, Without, Both, Minus, First};
+ghost use Rattle.nodes.specs.Sets.{None, All, With, WithWhere, Without, Both, Minus, First};
 
 // The set of no node.
 pub fn none() -> u64
@@ -15,14 +15,6 @@ pub fn all() -> u64
     ensures { λ r. ⌜ All r ⌝ }
 {
     18446744073709551615
-}
-
-// Whether node i is in the set.
-pub fn has(s: u64, i: usize) -> bool
-    requires { ⌜ i < 64 ⌝ }
-    ensures { λ r. ⌜ Has s i r ⌝ }
-{
-    (s >> i) & 1 == 1
 }
 
 // The set with node i.

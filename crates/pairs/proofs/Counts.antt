@@ -8,7 +8,7 @@ use native.Mathlib.Nat.{mul-le-mul-left}
 use lib.ListN.{getD}
 use Rattle.sums.specs.Sums.{sumTo, hit}
 use Rattle.sums.specs.Tables.{cell}
-use Rattle.sums.proofs.Sums.{sum-ext, sum-mono, sum-swap, sum-scale, sum-pick, sum-hit, sum-tight, sum-all-zero, hit-same, hit-other}
+use Rattle.sums.proofs.Sums.{sum-ext, sum-mono, sum-swap, sum-scale, sum-pick, sum-hit, sum-hit-most, sum-tight, sum-all-zero, hit-same, hit-other}
 use Rattle.sums.proofs.Cases.{by-eq, by-lt}
 use Rattle.pairs.specs.Pairs.{allowed, taken, Paired, Full, Stuck}
 
@@ -86,13 +86,6 @@ sum-ones : (k : ℕ) → sumTo k (λ j. 1) ≡ k
 unfolding sumTo
 sum-ones zero = refl
 sum-ones (suc k) = omega (arith, sum-ones k)
-
--- at most one number is x
-pub sum-hit-most : (n x : ℕ) → sumTo n (λ a. hit x a) ≤ 1
-sum-hit-most n x =
-    by-lt x n
-    (λ lt. omega (arith, sum-hit n x lt))
-    (λ le. omega (arith, sum-all-zero n (λ a. hit x a) (λ a ha. hit-other {a = x} {b = a} (λ e. omega arith))))
 
 module _ {n : ℕ} {may source destination : List ℕ} (p : Paired n may source destination) where
   taken-once : (i : ℕ) → i < n → taken n source i ≤ 1

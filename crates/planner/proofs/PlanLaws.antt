@@ -9,7 +9,7 @@ use borrow.Author.Tests.{ltb-false}
 use Rattle.sums.specs.Tables.{cell}
 use Rattle.sums.proofs.Sums.{sum-mono}
 use Rattle.sums.proofs.Cases.{by-eq}
-use Rattle.sums.proofs.Tables.{take-cell, place-split}
+use Rattle.sums.proofs.Tables.{take-cell, place-split, at-place}
 use Rattle.star.specs.declared.refusals.Refusal.{Refusal}
 use Rattle.star.specs.declared.refusals.Verdict.{Verdict}
 use Rattle.star.specs.declared.refusals.Verdict.the-variants as verdict
@@ -66,21 +66,12 @@ plan-below {n} {l} {rule} {cap} {d} {kept} {withdrawn} known p i j hi hj =
     (λ e. omega (arith, take-cell n kept (fairKept n cap d) (p .fair e .0) i j hi hj, fair-below n cap d i j hi hj))
     (λ ne. let e : rule ≡ 1 = omega arith in omega (arith, take-cell n kept (keptFrom n cap d withdrawn) (p .least e .1) i j hi hj, kept-below n cap d withdrawn i j hi hj))
 
--- the cell at a place is that of its pair
-pub at-place : (n : ℕ) (t : List ℕ) (p : ℕ) → p < n * n → getD t p 0 ≡ cell n t (p / n) (p % n)
-unfolding cell
-at-place n t p lt = ap (λ x. getD t x 0) (sym (place-split n p lt .1 .1))
-
 -- the same, place by place
 pub plan-below-at : {n l rule : ℕ} {cap d kept withdrawn schedule : List ℕ} → rule ≤ 1 → Plan n l rule cap d kept withdrawn schedule → (q : ℕ) → q < n * n → getD kept q 0 ≤ getD d q 0
 plan-below-at {n} {l} {rule} {cap} {d} {kept} known p q lt = let s = place-split n q lt in
     omega (arith, at-place n kept q lt, at-place n d q lt, plan-below known p (q / n) (q % n) (s .0) (s .1 .0))
 
 -- ---- the entry
--- a frame of 1,024 slots and 64 nodes has 65,536 bytes
-pub frame-small : (l n : ℕ) → l ≤ 1024 → n ≤ 64 → l * n ≤ 65536
-frame-small l n p q = mul-le-mul p q
-
 -- what the work asks where each line may fill the frame
 pub whole-room : {n l rule : ℕ} {d kept withdrawn schedule : List ℕ} → (1 ≤ n) × (n ≤ 64) × (1 ≤ l) × (l ≤ 1024) × (rule ≤ 1) → n * n ≤ length d → Demands n d →
     (n * n ≤ length kept) × (n * n ≤ length withdrawn) × (l * n ≤ length schedule) → PlanRoom n l rule (wholeFrame n l) d kept withdrawn schedule

@@ -1,9 +1,10 @@
-// What a plan answers.
+// What a plan or a frame answers.
 use star::refusals::Refusal;
 use star::refusals::Verdict;
 ghost use mathlib.Core.Path.{_≡_};
 ghost use Rattle.planner.specs.Plans.{verdictOf, keptTotal, refusedTotal, changes};
 
+// The two totals and the reconfigurations of an accepted call, or its refusal.
 pub enum Answer {
     Planned {
         kept: u32,

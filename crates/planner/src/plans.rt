@@ -3,7 +3,7 @@ use crate::answers::Answer;
 use crate::checks::plan_verdict;
 use crate::kept::keep;
 use crate::kept::total;
-use slots::changes::reconfigurations;
+use changes::reconfigurations;
 use slots::placing::place;
 use star::refusals::Verdict;
 ghost use mathlib.Core.Path.{_≡_};

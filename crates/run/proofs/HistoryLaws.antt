@@ -12,7 +12,7 @@ use mathlib.Core.List.{List, [], _∷_, _++_}
 use lib.ListN.{getD, replicate, length-replicate, getD-replicate}
 use borrow.Author.Tests.{le-ltb}
 use Rattle.sums.specs.Tables.{cell, tab, written}
-use Rattle.sums.proofs.Tables.{cell-lt, place-split, length-tab, tab-at, written-at}
+use Rattle.sums.proofs.Tables.{cell-lt, place-split, at-place, length-tab, tab-at, written-at}
 use Rattle.star.specs.declared.refusals.Refusal.{Refusal}
 use Rattle.star.specs.declared.refusals.Refusal.the-variants.{BooksDisagree}
 use Rattle.star.specs.declared.refusals.Verdict.{Verdict}
@@ -28,10 +28,10 @@ use Rattle.books.specs.Books.{firstDisagreeing}
 use Rattle.books.proofs.Agreements.{Agree, none-disagreeing}
 use Rattle.calls.specs.Runs.{freshRun, cleared, postVerdict, postRun, postPosted, postDropped, postWaiting, frameVerdict, frameRun}
 use Rattle.calls.specs.Checks.{Ranges}
-use Rattle.run.specs.Calls.{Held, FreshCall, PostCall, FrameCall}
+use Rattle.run.specs.Held.{Held, FreshCall, PostCall, FrameCall}
 use Rattle.run.specs.Histories.{Lent, Event, posting, framing, outcome, Happens, History, started, continued, arrived, carried, queue, exceeded, postsOf, framesOf, met, given, BooksHold}
 use Rattle.calls.proofs.Verdicts.{fresh-accepted, post-accepted}
-use Rattle.planner.proofs.PlanLaws.{plan-below, at-place}
+use Rattle.planner.proofs.PlanLaws.{plan-below}
 use Rattle.run.proofs.SentLaws.{plan-most, met-ext}
 
 -- ---- a pair of a table that was written by a rule

@@ -11,7 +11,7 @@ use Rattle.star.specs.Schedules.{ConflictFree, count}
 use Rattle.planner.specs.declared.answers.Answer.{Answer}
 use Rattle.planner.specs.Plans.{verdictOf}
 use Rattle.books.specs.Books.{firstDisagreeing}
-use Rattle.run.specs.Calls.{Held, FreshCall, PostCall, FrameCall}
+use Rattle.run.specs.Held.{Held, FreshCall, PostCall, FrameCall}
 
 -- the three tables lent to a frame
 pub record Lent : Type 0 where
@@ -90,7 +90,7 @@ met n l asked schedule = sumTo n (λ i. sumTo n (λ j. min (asked i j) (count n 
 unfoldable pub given : (n l : ℕ) (schedule : List ℕ) → ℕ
 given n l schedule = sumTo n (λ i. sumTo n (λ j. count n l schedule i j))
 
--- ---- demand 3: the books of a run hold, at every moment of its history (`books-hold` in proofs/HistoryLaws.antt)
+-- ---- the books of a run hold, at every moment of its history (`books-hold` in proofs/HistoryLaws.antt)
 pub record BooksHold (n l limit rule : ℕ) (es : List Event) (h : Held) : Type 0 where
   -- the record keeps N, L, B and the rule, and counts the accepted posts and frames
   pub nodes : h .run .nodes ≡ n

@@ -1,3 +1,3 @@
 -- What the entries of a run promise, and what follows for whole runs.
-pub mod Calls
+pub mod Held
 pub mod Histories

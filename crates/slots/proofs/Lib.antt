@@ -1,5 +1,3 @@
--- The laws of placing: levels, rounds, switch changes, and what a schedule without conflict can carry.
+-- The laws of placing: levels and rounds.
 pub mod LevelLaws
 pub mod RoundLaws
-pub mod ChangeLaws
-pub mod CountLaws

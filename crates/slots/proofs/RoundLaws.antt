@@ -11,12 +11,11 @@ use Rattle.sums.specs.Tables.{cell}
 use Rattle.sums.proofs.Sums.{sum-none, hit-other}
 use Rattle.sums.proofs.Cases.{by-eq}
 use Rattle.star.specs.Schedules.{count, Carries}
-use Rattle.star.proofs.LineLaws.{row-sum, column-sum, capacity}
+use Rattle.star.proofs.LineLaws.{row-sum, column-sum, cell-in-row, capacity}
 use Rattle.arrays.proofs.Stores.{square-kept, frame-kept, beyond-more}
 use Rattle.pairs.specs.Pairs.{allowed, Paired, Full, Rooms, CanMatch, Matched}
 use Rattle.pairs.proofs.Counts.{never-stuck, taken-all}
 use Rattle.idle.specs.Idle.{Small, Copied, Padded}
-use Rattle.idle.proofs.LineStores.{cell-row}
 use Rattle.holds.specs.Holds.{Placed, CanHold, Holds, Wrote}
 use Rattle.holds.proofs.Placing.{count-more, free-more}
 use Rattle.slots.specs.Levels.{Level}
@@ -101,7 +100,7 @@ module _ {n r : ℕ} {padded0 due0 may0 source0 destination0 schedule0 padded du
             record {
               free = rw (sym e) (q .free);
               exact = λ i j hi hj.
-                  let none : cell n due i j ≡ 0 = omega (arith, q .below i j hi hj, cell-row n padded i j hi hj, q .lines i (omega arith)) in
+                  let none : cell n due i j ≡ 0 = omega (arith, q .below i j hi hj, cell-in-row n padded i j hi hj, q .lines i (omega arith)) in
                   rw (sym e) (omega (arith, q .counts i j hi hj));
             };
         beyond = g .beyond;

@@ -2,4 +2,3 @@
 pub mod Levels
 pub mod Rounds
 pub mod Places
-pub mod Changes

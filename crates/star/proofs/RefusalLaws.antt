@@ -51,12 +51,6 @@ still-passes false r f e = f e
 pub too-low : (low high x : ℕ) → x < low → outside low high x ≡ true
 too-low low high x h = simp (lt-ltb x low h)
 
-pub too-high : (low high x : ℕ) → low ≤ x → high < x → outside low high x ≡ true
-too-high low high x h k = simp (le-ltb x low h, lt-ltb high x k)
-
-pub inside : (low high x : ℕ) → low ≤ x → x ≤ high → outside low high x ≡ false
-inside low high x h k = simp (le-ltb x low h, le-ltb high x k)
-
 -- ---- one of several tests
 pub first-of : (a b : Bool) → a ≡ true → (a || b) ≡ true
 first-of a b e = rw e refl

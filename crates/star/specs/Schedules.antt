@@ -28,10 +28,10 @@ pub record Carries (n l : ℕ) (s k : List ℕ) : Type 0 where
 unfoldable pub refusedBy : (n l : ℕ) (d s : List ℕ) → ℕ
 refusedBy n l d s = sumTo n (λ i. sumTo n (λ j. cell n d i j - count n l s i j))
 
--- slot k and slot m differ for some destination, idle being a value like any other
-unfoldable pub differ : (n : ℕ) (s : List ℕ) (k m : ℕ) → Bool
-differ n s k m = someBelow n (λ j. not (eqb (cell n s k j) (cell n s m j)))
+-- slot k of one schedule and slot m of another differ for some destination, idle being a value like any other
+unfoldable pub differ : (n : ℕ) (one : List ℕ) (k : ℕ) (other : List ℕ) (m : ℕ) → Bool
+differ n one k other m = someBelow n (λ j. not (eqb (cell n one k j) (cell n other m j)))
 
 -- The reconfigurations: the number of k from 0 to L−2 at which slot k and slot k+1 differ.
 unfoldable pub reconfigurations : (n l : ℕ) (s : List ℕ) → ℕ
-reconfigurations n l s = sumTo (l - 1) (λ k. bit (differ n s k (suc k)))
+reconfigurations n l s = sumTo (l - 1) (λ k. bit (differ n s k s (suc k)))

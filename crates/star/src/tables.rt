@@ -1,4 +1,4 @@
-// Cells of a square table: the only places where a pair's index is computed; tables written from the front.
+// Cells of a square table of 32-bit numbers; tables written from the front.
 ghost use mathlib.Core.Path.{_≡_};
 ghost use Prim.Native.Nat.{_+_, _*_, _<_, _≤_};
 ghost use lib.ListN.{length, getD, set, replicate};

@@ -173,10 +173,6 @@ sum-bump n k δ f g lt e h = omega (arith, sum-update n f g k lt h)
 pub sum-all-zero : (n : ℕ) (f : ℕ → ℕ) → ((k : ℕ) → k < n → f k ≡ 0) → sumTo n f ≡ 0
 sum-all-zero n f h = sum-ext n f (λ k. 0) h ∙ sum-zero n
 
--- each term of a sum that is 0 is 0
-pub sum-zero-at : (n : ℕ) (f : ℕ → ℕ) → sumTo n f ≡ 0 → (k : ℕ) → k < n → f k ≡ 0
-sum-zero-at n f e k lt = omega (arith, sum-at n f k lt)
-
 -- a range cut in two
 pub sum-split : (m n : ℕ) (f : ℕ → ℕ) → sumTo (m + n) f ≡ sumTo m f + sumTo n (λ k. f (m + k))
 sum-split m zero f = let e : m + 0 ≡ m = omega arith in rw e (omega (arith, sum-none (λ k. f (m + k))))

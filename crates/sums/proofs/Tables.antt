@@ -72,6 +72,11 @@ pub place-split : (n p : ℕ) → p < n * n → (p / n < n) × ((p % n < n) × (
 place-split zero p h = absurd (omega arith)
 place-split (suc n) p h = (div-lt-iff-lt-mul {k = suc n} {x = p} {y = suc n} (omega arith) .1 h, (mod-lt p (omega arith), div-add-mod' p (suc n)))
 
+-- the cell at a place is that of its pair
+pub at-place : (n : ℕ) (t : List ℕ) (p : ℕ) → p < n * n → getD t p 0 ≡ cell n t (p / n) (p % n)
+unfolding cell
+at-place n t p lt = ap (λ x. getD t x 0) (sym (place-split n p lt .1 .1))
+
 -- two tables of n * n cells that agree at each pair are one
 pub square-ext : (n : ℕ) (s t : List ℕ) → length s ≡ n * n → length t ≡ n * n → ((i j : ℕ) → i < n → j < n → cell n s i j ≡ cell n t i j) → s ≡ t
 unfolding cell

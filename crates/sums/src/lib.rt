@@ -1,1 +1,1 @@
-// Sums over a range and tables in lists: definitions and laws alone, shared by every layer.
+// Sums over a range, searches by a test and tables in lists: definitions and laws alone, shared by every layer.

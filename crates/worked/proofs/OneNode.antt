@@ -25,7 +25,7 @@ use Rattle.planner.specs.Plans.{verdictOf}
 use Rattle.calls.specs.declared.record.Run.{Run}
 use Rattle.books.specs.Books.{booksAgree, firstDisagreeing}
 use Rattle.calls.specs.Runs.{freshVerdict, freshRun, cleared, postVerdict, postRun, postPosted, postDropped, postWaiting, frameVerdict, frameRun}
-use Rattle.run.specs.Calls.{Held, FreshCall, PostCall, FrameCall}
+use Rattle.run.specs.Held.{Held, FreshCall, PostCall, FrameCall}
 use Rattle.worked.specs.Worked.{RunLine, start}
 use Rattle.worked.proofs.Marks.{by-marks}
 

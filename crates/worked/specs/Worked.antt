@@ -13,7 +13,7 @@ use Rattle.least.specs.Least.{Greatest, keptFrom}
 use Rattle.planner.specs.declared.answers.Answer.{Answer}
 use Rattle.planner.specs.Plans.{Plan, verdictOf}
 use Rattle.calls.specs.declared.record.Run.{Run}
-use Rattle.run.specs.Calls.{Held, FreshCall, PostCall, FrameCall}
+use Rattle.run.specs.Held.{Held, FreshCall, PostCall, FrameCall}
 
 -- a line under rule 0: what is kept, and the refused total
 pub record FairLine (n l : ℕ) (d kept : List ℕ) (refused : ℕ) : Type 0 where

@@ -3,7 +3,7 @@ use Prim.Native.Nat.{_≤_, _-_}
 use native.Mathlib.Omega.{arith}
 use mathlib.Core.Path.{_≡_, refl, _∙_}
 use lib.ListN.{length}
-use Rattle.arrays.proofs.Stores.{stored-more}
+use Rattle.sums.proofs.Fills.{set-more}
 use Rattle.arrays.specs.Arrays.{Filled}
 use Rattle.arrays.proofs.lists.fill.Statement.{statement}
 use Rattle.arrays.proofs.lists.fill.Tie as tie
@@ -27,7 +27,7 @@ loop-less : tie.Need-loop-less Inv-loop μ-loop
 loop-less c = omega arith
 
 loop-again : tie.Need-loop-again Inv-loop μ-loop
-loop-again c = (omega arith, c .before .before .put-byte .kept .0 ∙ c .before .before .before .before .before .loop .inv .1, rw (c .before .before .put-byte .ensures) (record { all = stored-more (λ u. c .before .before .before .before .before .before .before .args .b) (c .before .before .before .before .before .loop .x) _ _ (omega (arith, c .before .before .before .before .before .loop .inv .1, c .before .before .before .before .before .before .before .pre .0)) refl (c .before .before .before .before .before .loop .inv .2 .all) }))
+loop-again c = (omega arith, c .before .before .put-byte .kept .0 ∙ c .before .before .before .before .before .loop .inv .1, rw (c .before .before .put-byte .ensures) (record { all = set-more (λ u. c .before .before .before .before .before .before .before .args .b) (c .before .before .before .before .before .loop .x) _ _ (omega (arith, c .before .before .before .before .before .loop .inv .1, c .before .before .before .before .before .before .before .pre .0)) refl (c .before .before .before .before .before .loop .inv .2 .all) }))
 
 same-length : tie.Need-same-length Inv-loop μ-loop
 same-length c = c .before .loop .inv .1

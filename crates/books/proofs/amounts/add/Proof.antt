@@ -4,7 +4,7 @@ use native.Mathlib.Omega.{arith}
 use mathlib.Core.Path.{_≡_, refl}
 use lib.ListN.{getD}
 use Rattle.sums.proofs.Tables.{mul-small}
-use Rattle.books.proofs.Fills.{Filled, filled-none, filled-next, filled-more, filled-all}
+use Rattle.sums.proofs.Fills.{Filled, filled-none, filled-next, filled-more, filled-all}
 use Rattle.books.proofs.amounts.add.Statement.{statement}
 use Rattle.books.proofs.amounts.add.Tie as tie
 

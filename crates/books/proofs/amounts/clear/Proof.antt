@@ -4,7 +4,7 @@ use native.Mathlib.Omega.{arith}
 use mathlib.Core.Path.{_≡_, refl, ap, _∙_}
 use Rattle.sums.specs.Tables.{written}
 use Rattle.sums.proofs.Tables.{mul-small}
-use Rattle.books.proofs.Fills.{Filled, filled-none, filled-more, filled-all, tab-same}
+use Rattle.sums.proofs.Fills.{Filled, filled-none, filled-more, filled-all, tab-same}
 use Rattle.books.proofs.amounts.clear.Statement.{statement}
 use Rattle.books.proofs.amounts.clear.Tie as tie
 

@@ -32,6 +32,7 @@ draw-Inv-loop n bound a₀ room₀ marks₀ line level want got₀ t₀ a room m
 abbrev draw-μ-loop : draw-lts.MeasureT-loop
 draw-μ-loop n bound a₀ room₀ marks₀ line level want got₀ t₀ a room marks got t = n - t
 
+-- ---- level 1: from the line's own room
 draw-draw-own-requires : (t : ℕ) → draw-lts.Need-draw-own-requires (
   draw-own-reads.Asked,
   draw-own-reads.Learnt,
@@ -75,9 +76,9 @@ draw-returns : (t : ℕ) → draw-lts.Need-returns (
 draw-returns t c =
     let asked = c .before .before .before .before .before .before .before .before .before .pre in
     let draw-own-said = c .before .before .draw-own in
-    let asked = asked in
     rw (draw-own-said .ensures .1) (own-drawn _ _ _ _ _ _ _ _ _ (asked .1) (c .before .before .before .before .if1 .taken) (draw-own-said .ensures .0))
 
+-- ---- the loop starts; a pair through which nothing can be drawn is passed over
 draw-loop-holds : (t : ℕ) → draw-lts.Need-loop-holds (
   draw-own-reads.Asked,
   draw-own-reads.Learnt,
@@ -121,7 +122,6 @@ draw-drawable-requires : (t : ℕ) → draw-lts.Need-drawable-requires (
 draw-drawable-requires t c κs =
     let asked = c .before .before .before .before .before .before .before .before .before .pre in
     let turn = c .before .before .before .loop in
-    let asked = asked in
     (roomy-now (turn .inv .4) (asked .1) (turn .inv .1) (turn .inv .2) .below, (omega (arith, asked .1 .lines, turn .inv .3), asked .1 .line, omega arith, asked .1 .reached, omega (arith, turn .inv .4 .short)))
 
 draw-add-t : (t : ℕ) → draw-lts.Need-add-t (
@@ -168,6 +168,7 @@ draw-loop-again t c =
     let turn = c .before .before .before .before .before .loop in
     (omega arith, turn .inv .1, turn .inv .2, turn .inv .3, drawing-skip (turn .inv .4) (c .before .drawable .ensures .none (c .if2 .taken)))
 
+-- ---- through one pair
 draw-crossing-requires : (t : ℕ) → draw-lts.Need-crossing-requires (
   draw-own-reads.Asked,
   draw-own-reads.Learnt,
@@ -182,7 +183,6 @@ draw-crossing-requires : (t : ℕ) → draw-lts.Need-crossing-requires (
 ) (draw-at t) draw.Post draw-Inv-loop draw-μ-loop
 draw-crossing-requires t c κs =
     let asked = c .before .before .before .before .before .before .before .before .before .before .before .before .before .before .pre in
-    let asked = asked in
     (asked .1 .roomy .below .cells .nodes, omega arith)
 
 draw-sub-draw : (t : ℕ) → draw-lts.Need-sub-draw (
@@ -264,6 +264,7 @@ draw-add-got t c =
     let fits-said = fits-said in
     omega (arith, draw-said .ensures .most, drawable-said .ensures .most, turn .inv .4 .short, fits-said .want)
 
+-- ---- all that was wanted is there
 draw-same-length-2 : (t : ℕ) → draw-lts.Need-same-length-2 (
   draw-own-reads.Asked,
   draw-own-reads.Learnt,
@@ -343,6 +344,7 @@ draw-returns-2 t c =
     let if2 = c .before .before .before .before .before .before .before .before .before .before .before .before .before .before .before .before .if2 in
     rw (c .before .before .before .pass .ensures) (drawing-full (turn .inv .4) (rw (crossing-said .ensures) at (draw-said .ensures)) (asked .1 .line) (loop-test-said .taken) (drawable-said .ensures .lower (omega (arith, if2 .left))) (omega (arith, asked .1 .reached)) (drawable-said .ensures .can) (omega (arith, draw-said .kept .1 .1 .0, turn .inv .1, asked .1 .roomy .below .cells .cells)) (c .if3 .taken))
 
+-- ---- the next pair
 draw-add-t-2 : (t : ℕ) → draw-lts.Need-add-t-2 (
   draw-own-reads.Asked,
   draw-own-reads.Learnt,
@@ -394,6 +396,7 @@ draw-loop-again-2 t c =
     let if2 = c .before .before .before .before .before .before .before .before .before .before .before .before .before .before .before .before .if2 in
     (omega (arith, loop-test-said .taken), pass-said .kept .1 .0 ∙ draw-said .kept .1 .1 .0 ∙ turn .inv .1, draw-said .kept .1 .1 .1 .0 ∙ turn .inv .2, draw-said .kept .1 .1 .1 .1 .0 ∙ turn .inv .3, rw (pass-said .ensures) (drawing-step (turn .inv .4) (rw (crossing-said .ensures) at (draw-said .ensures)) (asked .1 .line) (loop-test-said .taken) (drawable-said .ensures .lower (omega (arith, if2 .left))) (omega (arith, asked .1 .reached)) (drawable-said .ensures .can) (omega (arith, draw-said .kept .1 .1 .0, turn .inv .1, asked .1 .roomy .below .cells .cells)) (omega (arith, c .if3 .left, draw-said .ensures .most, drawable-said .ensures .most, turn .inv .4 .short))))
 
+-- ---- no pair is left: the line loses its mark
 draw-slice-write-marks : (t : ℕ) → draw-lts.Need-slice-write-marks (
   draw-own-reads.Asked,
   draw-own-reads.Learnt,
@@ -467,7 +470,6 @@ draw-returns-3 : (t : ℕ) → draw-lts.Need-returns-3 (
 draw-returns-3 t c =
     let asked = c .before .before .before .before .before .before .before .pre in
     let turn = c .before .loop in
-    let asked = asked in
     drawing-end (turn .inv .4) (asked .1 .line) (omega (arith, asked .1 .reached, c .before .before .if1 .left)) (asked .1 .own) (omega (arith, asked .1 .line, asked .1 .lines, turn .inv .3)) (omega arith)
 
 pub +draw-spec : {M : Type 1} → statement M

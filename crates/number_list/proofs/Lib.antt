@@ -1,0 +1,2 @@
+-- The laws of reading a list byte by byte.
+pub mod InputLaws
