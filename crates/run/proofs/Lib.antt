@@ -1,3 +1,4 @@
--- The laws of a run's history.
+-- The laws of frames and of a run's history.
 pub mod SentLaws
+pub mod FrameLaws
 pub mod HistoryLaws
