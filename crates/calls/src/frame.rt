@@ -97,24 +97,17 @@ pub fn frame_on(
     a
 }
 
-// What the record holds after a frame.
-pub fn frame_run(old: Run, a: Answer) -> Run
+// How many frames the record counts after a frame.
+pub fn frames_after(old: Run, a: Answer) -> u32
     requires { ⌜ (verdictOf a ≡ Accepted → old .frames < 1000000) ⌝ }
-    ensures { λ r. ⌜ r ≡ frameRun old (verdictOf a) ⌝ }
+    ensures { λ r. ⌜ r ≡ frameRun old (verdictOf a) .frames ⌝ }
 {
     match a {
         Answer::Planned {
             kept: _,
             refused: _,
             reconfigurations: _,
-        } => Run {
-            nodes: old.nodes,
-            slots: old.slots,
-            limit: old.limit,
-            rule: old.rule,
-            posts: old.posts,
-            frames: old.frames + 1,
-        },
-        Answer::Refused { refusal: _ } => old,
+        } => old.frames + 1,
+        Answer::Refused { refusal: _ } => old.frames,
     }
 }

@@ -84,20 +84,13 @@ pub fn post_on(
     v
 }
 
-// What the record holds after a post.
-pub fn post_run(old: Run, v: Verdict) -> Run
+// How many posts the record counts after a post.
+pub fn posts_after(old: Run, v: Verdict) -> u32
     requires { ⌜ (v ≡ Accepted → old .posts < 1000000) ⌝ }
-    ensures { λ r. ⌜ r ≡ postRun old v ⌝ }
+    ensures { λ r. ⌜ r ≡ postRun old v .posts ⌝ }
 {
     match v {
-        Verdict::Accepted => Run {
-            nodes: old.nodes,
-            slots: old.slots,
-            limit: old.limit,
-            rule: old.rule,
-            posts: old.posts + 1,
-            frames: old.frames,
-        },
-        Verdict::Refused { refusal: _ } => old,
+        Verdict::Accepted => old.posts + 1,
+        Verdict::Refused { refusal: _ } => old.posts,
     }
 }

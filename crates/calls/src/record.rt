@@ -1,4 +1,5 @@
 // The record of a run: N, L, B, the rule, and the counts of accepted posts and frames.
+#[repr(C)]
 pub struct Run {
     pub nodes: u32,
     pub slots: u32,

@@ -1,3 +1,2 @@
--- What an exported entry reports, and the record of a run as six numbers.
-pub mod Records
+-- What an exported entry reports.
 pub mod Reports

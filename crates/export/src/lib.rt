@@ -1,8 +1,5 @@
 // The entries for programs in C and Rust: numbers and slices in, document 01's number out, its place and what else is reported through a reference.
-pub mod records;
-
-use crate::records::numbers;
-use crate::records::read;
+use calls::record::Run;
 use planner::answers::Answer;
 use planner::answers::kept_total;
 use planner::answers::reconfigured;
@@ -12,7 +9,6 @@ ghost use mathlib.Core.Path.{_≡_};
 ghost use Rattle.slacks.specs.Slacks.{SlacksResult};
 ghost use Rattle.planner.specs.Plans.{PlanResult, verdictOf};
 ghost use Rattle.calls.specs.Runs.{Freshened, freshRun, Posted, postRun, Framed, frameRun};
-ghost use Rattle.export.specs.Records.{numbersOf, recordOf};
 ghost use Rattle.export.specs.Reports.{Reported, ReportedPlan, reportOf};
 
 // `slacks::slacks`; returns the number of the refusal, 0 where the call is accepted, and stores its place.
@@ -63,10 +59,10 @@ pub extern "C" fn gyodaebeun_plan(
     star::refusals::number(verdict(a))
 }
 
-// The entry `fresh` with the record as six numbers; returns the number of the refusal, 0 where the call is accepted, and stores its place.
+// `run::fresh::fresh`; returns the number of the refusal, 0 where the call is accepted, and stores its place.
 #[no_mangle]
 pub extern "C" fn gyodaebeun_fresh(
-    run: &mut [u32; 6],
+    run: &mut Run,
     nodes: u32,
     slots: u32,
     limit: u32,
@@ -77,11 +73,10 @@ pub extern "C" fn gyodaebeun_fresh(
     dropped: &mut [u64],
     place: &mut u32,
 ) -> u32
-    ensures { λ r. ⌜ Reported (λ v. (Freshened (recordOf (now (run .entry))) nodes slots limit rule (now (waiting .entry)) (now (posted .entry)) (now (sent .entry)) (now (dropped .entry)) (now (waiting .exit)) (now (posted .exit)) (now (sent .exit)) (now (dropped .exit)) v) × (now (run .exit) ≡ numbersOf (freshRun (recordOf (now (run .entry))) nodes slots limit rule v))) r (now (place .exit)) ⌝ }
+    ensures { λ r. ⌜ Reported (λ v. (Freshened (now (run .entry)) nodes slots limit rule (now (waiting .entry)) (now (posted .entry)) (now (sent .entry)) (now (dropped .entry)) (now (waiting .exit)) (now (posted .exit)) (now (sent .exit)) (now (dropped .exit)) v) × (now (run .exit) ≡ freshRun (now (run .entry)) nodes slots limit rule v)) r (now (place .exit)) ⌝ }
 {
-    let old = read(*run);
-    let v = calls::fresh::fresh_on(
-        old,
+    let v = run::fresh::fresh(
+        run,
         nodes,
         slots,
         limit,
@@ -91,15 +86,14 @@ pub extern "C" fn gyodaebeun_fresh(
         sent,
         dropped,
     );
-    *run = numbers(calls::fresh::fresh_run(old, v, nodes, slots, limit, rule));
     *place = star::refusals::place(v);
     star::refusals::number(v)
 }
 
-// The entry `post` with the record as six numbers; returns the number of the refusal, 0 where the call is accepted, and stores its place.
+// `run::post::post`; returns the number of the refusal, 0 where the call is accepted, and stores its place.
 #[no_mangle]
 pub extern "C" fn gyodaebeun_post(
-    run: &mut [u32; 6],
+    run: &mut Run,
     arrivals: &[u32],
     waiting: &mut [u32],
     posted: &mut [u64],
@@ -107,20 +101,18 @@ pub extern "C" fn gyodaebeun_post(
     dropped: &mut [u64],
     place: &mut u32,
 ) -> u32
-    ensures { λ r. ⌜ Reported (λ v. (Posted (recordOf (now (run .entry))) (now (arrivals .entry)) (now (waiting .entry)) (now (posted .entry)) (now (sent .entry)) (now (dropped .entry)) (now (waiting .exit)) (now (posted .exit)) (now (dropped .exit)) v) × (now (run .exit) ≡ numbersOf (postRun (recordOf (now (run .entry))) v))) r (now (place .exit)) ⌝ }
+    ensures { λ r. ⌜ Reported (λ v. (Posted (now (run .entry)) (now (arrivals .entry)) (now (waiting .entry)) (now (posted .entry)) (now (sent .entry)) (now (dropped .entry)) (now (waiting .exit)) (now (posted .exit)) (now (dropped .exit)) v) × (now (run .exit) ≡ postRun (now (run .entry)) v)) r (now (place .exit)) ⌝ }
 {
-    let old = read(*run);
-    let v = calls::post::post_on(old, arrivals, waiting, posted, sent, dropped);
-    *run = numbers(calls::post::post_run(old, v));
+    let v = run::post::post(run, arrivals, waiting, posted, sent, dropped);
     *place = star::refusals::place(v);
     star::refusals::number(v)
 }
 
-// The entry `frame` with the record as six numbers; returns the number of the refusal, 0 where the call is accepted, and stores its place,
-// the kept total, the refused total and the reconfigurations.
+// `run::frame::frame`; returns the number of the refusal, 0 where the call is accepted, and stores its place, the kept total, the refused
+// total and the reconfigurations.
 #[no_mangle]
 pub extern "C" fn gyodaebeun_frame(
-    run: &mut [u32; 6],
+    run: &mut Run,
     waiting: &mut [u32],
     posted: &[u64],
     sent: &mut [u64],
@@ -130,11 +122,10 @@ pub extern "C" fn gyodaebeun_frame(
     schedule: &mut [u8],
     report: &mut [u32; 4],
 ) -> u32
-    ensures { λ r. ⌜ ReportedPlan (λ a. (Framed (recordOf (now (run .entry))) (now (waiting .entry)) (now (posted .entry)) (now (sent .entry)) (now (dropped .entry)) (now (kept .entry)) (now (withdrawn .entry)) (now (schedule .entry)) (now (waiting .exit)) (now (sent .exit)) (now (kept .exit)) (now (withdrawn .exit)) (now (schedule .exit)) a) × (now (run .exit) ≡ numbersOf (frameRun (recordOf (now (run .entry))) (verdictOf a)))) r (now (report .exit)) ⌝ }
+    ensures { λ r. ⌜ ReportedPlan (λ a. (Framed (now (run .entry)) (now (waiting .entry)) (now (posted .entry)) (now (sent .entry)) (now (dropped .entry)) (now (kept .entry)) (now (withdrawn .entry)) (now (schedule .entry)) (now (waiting .exit)) (now (sent .exit)) (now (kept .exit)) (now (withdrawn .exit)) (now (schedule .exit)) a) × (now (run .exit) ≡ frameRun (now (run .entry)) (verdictOf a))) r (now (report .exit)) ⌝ }
 {
-    let old = read(*run);
-    let a = calls::frame::frame_on(
-        old,
+    let a = run::frame::frame(
+        run,
         waiting,
         posted,
         sent,
@@ -143,7 +134,6 @@ pub extern "C" fn gyodaebeun_frame(
         withdrawn,
         schedule,
     );
-    *run = numbers(calls::frame::frame_run(old, a));
     *report = reported(a);
     star::refusals::number(verdict(a))
 }

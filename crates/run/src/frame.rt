@@ -1,6 +1,6 @@
 // The entry `frame`: a frame is planned from the queues and sent.
 use calls::frame::frame_on;
-use calls::frame::frame_run;
+use calls::frame::frames_after;
 use calls::record::Run;
 use planner::answers::Answer;
 ghost use mathlib.Core.Path.{_≡_};
@@ -32,7 +32,6 @@ pub fn frame(
         withdrawn,
         schedule,
     );
-    let new = frame_run(old, a);
-    *run = new;
+    run.frames = frames_after(old, a);
     a
 }

@@ -1,6 +1,6 @@
 // The entry `post`: arrivals come to the queues.
 use calls::post::post_on;
-use calls::post::post_run;
+use calls::post::posts_after;
 use calls::record::Run;
 use star::refusals::Verdict;
 ghost use mathlib.Core.Path.{_≡_};
@@ -21,7 +21,6 @@ pub fn post(
 {
     let old = *run;
     let v = post_on(old, arrivals, waiting, posted, sent, dropped);
-    let new = post_run(old, v);
-    *run = new;
+    run.posts = posts_after(old, v);
     v
 }

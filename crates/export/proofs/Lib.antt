@@ -1,2 +1,0 @@
--- The laws of a record read from its numbers.
-pub mod RecordLaws
