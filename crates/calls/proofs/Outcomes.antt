@@ -2,31 +2,51 @@
 -- and leaves what the contract says. Assumes nothing.
 use Prim.Native.Nat.{ℕ, _+_, _-_, _*_, _<_, _^_, min}
 use native.Mathlib.Omega.{arith}
-use mathlib.Core.Path.{_≡_, refl, sym, _∙_}
+use mathlib.Core.Path.{_≡_, refl, sym, _∙_, ap}
 use mathlib.Core.List.{List}
 use lib.ListN.{length, getD, replicate}
 use Rattle.sums.specs.Tables.{tab, written}
 use Rattle.star.specs.declared.refusals.Refusal.{Refusal}
 use Rattle.star.specs.declared.refusals.Verdict.{Verdict}
 use Rattle.star.specs.declared.refusals.Verdict.the-variants.{Accepted, Refused}
+use Rattle.star.specs.Refusals.{noticeOf}
 use Rattle.star.specs.Tables.{Square}
 use Rattle.star.specs.Lines.{wholeFrame}
-use Rattle.star.proofs.RefusalLaws.{never}
+use Rattle.star.proofs.RefusalLaws.{in-numbers, never}
 use Rattle.planner.specs.declared.answers.Answer.{Answer}
 use Rattle.planner.specs.declared.answers.Answer.the-variants as answer
 use Rattle.planner.specs.Plans.{verdictOf, PlanRoom, Wrote}
 use Rattle.planner.proofs.PlanLaws.{whole-room, plan-below-at}
 use Rattle.books.specs.Rooms.{Tables, Adds, Arrives, Drops, Takes}
 use Rattle.calls.specs.declared.record.Run.{Run}
-use Rattle.calls.specs.Runs.{freshVerdict, cleared, Freshened, postVerdict, postWaiting, postPosted, postDropped, Posted, frameVerdict, Framed}
+use Rattle.calls.specs.Runs.{freshVerdict, freshNotice, cleared, Freshened, postVerdict, postNotice, postWaiting, postPosted, postDropped, Posted, frameVerdict, frameNotice, Framed}
 use Rattle.calls.proofs.Verdicts.{PostFits, FrameFits, fresh-accepted, post-accepted, frame-accepted}
+
+-- ---- the chains of refusals in numbers
+fresh-notice : (n l limit rule waiting posted sent dropped : ℕ) → noticeOf (freshVerdict n l limit rule waiting posted sent dropped) ≡ freshNotice n l limit rule waiting posted sent dropped
+unfolding freshVerdict freshNotice
+fresh-notice n l limit rule waiting posted sent dropped = in-numbers _ _ _ (in-numbers _ _ _ (in-numbers _ _ _ (in-numbers _ _ _ (in-numbers _ _ _ refl))))
+
+post-notice : (old : Run) (arrivals waiting posted sent dropped : List ℕ) → noticeOf (postVerdict old arrivals waiting posted sent dropped) ≡ postNotice old arrivals waiting posted sent dropped
+unfolding postVerdict postNotice
+post-notice old arrivals waiting posted sent dropped =
+    in-numbers _ _ _ (in-numbers _ _ _ (in-numbers _ _ _ (in-numbers _ _ _ (in-numbers _ _ _ (in-numbers _ _ _ (in-numbers _ _ _ (in-numbers _ _ _ (in-numbers _ _ _ refl))))))))
+
+frame-notice : (old : Run) (waiting posted sent dropped : List ℕ) (kept withdrawn schedule : ℕ) →
+    noticeOf (frameVerdict old waiting posted sent dropped kept withdrawn schedule) ≡ frameNotice old waiting posted sent dropped kept withdrawn schedule
+unfolding frameVerdict frameNotice
+frame-notice old waiting posted sent dropped kept withdrawn schedule =
+    in-numbers _ _ _ (in-numbers _ _ _ (in-numbers _ _ _ (in-numbers _ _ _ (in-numbers _ _ _ (in-numbers _ _ _ (in-numbers _ _ _ refl))))))
 
 -- ---- fresh
 module _ (old : Run) (n l limit rule : ℕ) (waiting posted sent dropped : List ℕ) {v : Verdict}
     (is : v ≡ freshVerdict n l limit rule (length waiting) (length posted) (length sent) (length dropped)) where
+  fresh-noted : noticeOf v ≡ freshNotice n l limit rule (length waiting) (length posted) (length sent) (length dropped)
+  fresh-noted = ap noticeOf is ∙ fresh-notice n l limit rule (length waiting) (length posted) (length sent) (length dropped)
+
   pub fresh-refused : {r : Refusal} → v ≡ Refused r → Freshened old n l limit rule waiting posted sent dropped waiting posted sent dropped v
   unfolding cleared
-  fresh-refused e = record { answer = is; now-waiting = rw e refl; now-posted = rw e refl; now-sent = rw e refl; now-dropped = rw e refl }
+  fresh-refused e = record { answer = is; notice = fresh-noted; now-waiting = rw e refl; now-posted = rw e refl; now-sent = rw e refl; now-dropped = rw e refl }
 
   pub fresh-room : v ≡ Accepted → Tables n waiting posted sent dropped
   fresh-room e = fresh-accepted n l limit rule waiting posted sent dropped (sym is ∙ e) .1
@@ -36,13 +56,16 @@ module _ (old : Run) (n l limit rule : ℕ) (waiting posted sent dropped : List 
       sent' ≡ written (n * n) (replicate (n * n) 0) sent → dropped' ≡ written (n * n) (replicate (n * n) 0) dropped →
       Freshened old n l limit rule waiting posted sent dropped waiting' posted' sent' dropped' v
   unfolding cleared
-  fresh-done e w p s d = record { answer = is; now-waiting = rw e w; now-posted = rw e p; now-sent = rw e s; now-dropped = rw e d }
+  fresh-done e w p s d = record { answer = is; notice = fresh-noted; now-waiting = rw e w; now-posted = rw e p; now-sent = rw e s; now-dropped = rw e d }
 
 -- ---- post
 module _ (old : Run) (arrivals waiting posted sent dropped : List ℕ) {v : Verdict} (is : v ≡ postVerdict old arrivals waiting posted sent dropped) where
+  post-noted : noticeOf v ≡ postNotice old arrivals waiting posted sent dropped
+  post-noted = ap noticeOf is ∙ post-notice old arrivals waiting posted sent dropped
+
   pub post-refused : {r : Refusal} → v ≡ Refused r → Posted old arrivals waiting posted sent dropped waiting posted dropped v
   unfolding postWaiting postPosted postDropped
-  post-refused e = record { answer = is; now-waiting = rw e refl; now-posted = rw e refl; now-dropped = rw e refl }
+  post-refused e = record { answer = is; notice = post-noted; now-waiting = rw e refl; now-posted = rw e refl; now-dropped = rw e refl }
 
   pub post-done : v ≡ Accepted → {waiting' posted' dropped' : List ℕ} →
       waiting' ≡ written (old .nodes * old .nodes) (tab (old .nodes * old .nodes) (λ p. min (getD waiting p 0 + getD arrivals p 0) (old .limit))) waiting →
@@ -50,7 +73,7 @@ module _ (old : Run) (arrivals waiting posted sent dropped : List ℕ) {v : Verd
       dropped' ≡ written (old .nodes * old .nodes) (tab (old .nodes * old .nodes) (λ p. getD dropped p 0 + (getD waiting p 0 + getD arrivals p 0 - old .limit))) dropped →
       Posted old arrivals waiting posted sent dropped waiting' posted' dropped' v
   unfolding postWaiting postPosted postDropped
-  post-done e w p d = record { answer = is; now-waiting = rw e w; now-posted = rw e p; now-dropped = rw e d }
+  post-done e w p d = record { answer = is; notice = post-noted; now-waiting = rw e w; now-posted = rw e p; now-dropped = rw e d }
 
 -- the sums that a post makes fit: no pair had more than 65,535 a post, and there were fewer than 1,000,000 posts
 module _ {old : Run} {arrivals waiting posted sent dropped : List ℕ} (fits : PostFits old arrivals waiting posted sent dropped) where
@@ -80,10 +103,14 @@ post-counted {old} {arrivals} {waiting} {posted} {sent} {dropped} h e = post-acc
 -- ---- frame
 module _ (old : Run) (waiting posted sent dropped kept withdrawn schedule : List ℕ) {v : Verdict}
     (is : v ≡ frameVerdict old waiting posted sent dropped (length kept) (length withdrawn) (length schedule)) where
+  frame-noted : (u : Verdict) → u ≡ v → noticeOf u ≡ frameNotice old waiting posted sent dropped (length kept) (length withdrawn) (length schedule)
+  frame-noted u e = ap noticeOf (e ∙ is) ∙ frame-notice old waiting posted sent dropped (length kept) (length withdrawn) (length schedule)
+
   pub frame-refused : {x : Refusal} → v ≡ Refused x →
       Framed old waiting posted sent dropped kept withdrawn schedule waiting sent kept withdrawn schedule (answer.Refused x)
   frame-refused e = record {
     answer = sym e ∙ is;
+    notice = frame-noted _ (sym e);
     accepted = λ q. absurd (never q);
     now-waiting = λ q. absurd (never q);
     now-sent = λ q. absurd (never q);
@@ -100,6 +127,7 @@ module _ (old : Run) (waiting posted sent dropped kept withdrawn schedule : List
       Framed old waiting posted sent dropped kept withdrawn schedule waiting' sent' kept' withdrawn' schedule' r
   frame-done e planned wrote w s = record {
     answer = planned ∙ sym e ∙ is;
+    notice = frame-noted _ (planned ∙ sym e);
     accepted = λ q. wrote;
     now-waiting = λ q. w;
     now-sent = λ q. s;

@@ -10,7 +10,7 @@ use Rattle.star.specs.declared.refusals.Refusal.{Refusal}
 use Rattle.star.specs.declared.refusals.Refusal.the-variants.{Nodes, Slots, Rule, DemandShort, TableShort, DemandAbove, QueueLimit, BooksDisagree, CallsSpent}
 use Rattle.star.specs.declared.refusals.Verdict.{Verdict}
 use Rattle.star.specs.declared.refusals.Verdict.the-variants.{Accepted, Refused}
-use Rattle.star.specs.Refusals.{refuse, nodesOut, slotsOut, ruleOut, limitOut, short, spent, someCell, firstAbove}
+use Rattle.star.specs.Refusals.{Notice, noticeOf, accepted, check, refuse, nodesOut, slotsOut, ruleOut, limitOut, short, spent, someCell, firstAbove}
 use Rattle.star.specs.Lines.{wholeFrame}
 use Rattle.planner.specs.declared.answers.Answer.{Answer}
 use Rattle.planner.specs.Plans.{verdictOf, planShort, Wrote}
@@ -32,6 +32,16 @@ freshVerdict n l limit rule waiting posted sent dropped =
     (refuse (runShort n waiting posted sent dropped) TableShort
     Accepted))))
 
+-- the same in document 01's numbers, each with its place
+unfoldable pub freshNotice : (n l limit rule waiting posted sent dropped : ℕ) → Notice
+freshNotice n l limit rule waiting posted sent dropped =
+    check (nodesOut n) 1 0
+    (check (slotsOut l) 2 0
+    (check (ruleOut rule) 3 0
+    (check (limitOut limit) 7 0
+    (check (runShort n waiting posted sent dropped) 5 0
+    accepted))))
+
 -- Fresh takes N, L, B and the rule, puts them in the record, and sets both counts to 0 ..
 unfoldable pub freshRun : (old : Run) (n l limit rule : ℕ) (v : Verdict) → Run
 freshRun old n l limit rule Accepted = record { nodes = n; slots = l; limit = limit; rule = rule; posts = 0; frames = 0 }
@@ -45,6 +55,7 @@ cleared n table (Refused r) = table
 -- what `fresh` promises of its answer and the four tables; `freshRun` says it of the record
 pub record Freshened (old : Run) (n l limit rule : ℕ) (waiting posted sent dropped waiting' posted' sent' dropped' : List ℕ) (v : Verdict) : Type 0 where
   pub answer : v ≡ freshVerdict n l limit rule (length waiting) (length posted) (length sent) (length dropped)
+  pub notice : noticeOf v ≡ freshNotice n l limit rule (length waiting) (length posted) (length sent) (length dropped)
   pub now-waiting : waiting' ≡ cleared n waiting v
   pub now-posted : posted' ≡ cleared n posted v
   pub now-sent : sent' ≡ cleared n sent v
@@ -65,6 +76,21 @@ postVerdict old arrivals waiting posted sent dropped =
     (refuse (spent (old .posts)) CallsSpent
     (refuse (someCell (old .nodes * old .nodes) (firstAbove (old .nodes) arrivals)) (DemandAbove (firstAbove (old .nodes) arrivals))
     Accepted))))))))
+
+-- the same in document 01's numbers, each with its place
+unfoldable pub postNotice : (old : Run) (arrivals waiting posted sent dropped : List ℕ) → Notice
+postNotice old arrivals waiting posted sent dropped =
+    check (nodesOut (old .nodes)) 1 0
+    (check (slotsOut (old .slots)) 2 0
+    (check (ruleOut (old .rule)) 3 0
+    (check (limitOut (old .limit)) 7 0
+    (check (short (length arrivals) (old .nodes * old .nodes)) 4 0
+    (check (runShort (old .nodes) (length waiting) (length posted) (length sent) (length dropped)) 5 0
+    (check (someCell (old .nodes * old .nodes) (firstDisagreeing (old .nodes) (old .limit) (old .posts) waiting posted sent dropped)) 8
+    (firstDisagreeing (old .nodes) (old .limit) (old .posts) waiting posted sent dropped)
+    (check (spent (old .posts)) 9 0
+    (check (someCell (old .nodes * old .nodes) (firstAbove (old .nodes) arrivals)) 6 (firstAbove (old .nodes) arrivals)
+    accepted))))))))
 
 -- posts rises by 1
 unfoldable pub postRun : (old : Run) (v : Verdict) → Run
@@ -91,6 +117,7 @@ postWaiting old arrivals waiting (Refused r) = waiting
 -- what `post` promises of its answer and the tables that it writes; `postRun` says it of the record
 pub record Posted (old : Run) (arrivals waiting posted sent dropped waiting' posted' dropped' : List ℕ) (v : Verdict) : Type 0 where
   pub answer : v ≡ postVerdict old arrivals waiting posted sent dropped
+  pub notice : noticeOf v ≡ postNotice old arrivals waiting posted sent dropped
   pub now-waiting : waiting' ≡ postWaiting old arrivals waiting v
   pub now-posted : posted' ≡ postPosted old arrivals posted v
   pub now-dropped : dropped' ≡ postDropped old arrivals waiting dropped v
@@ -111,6 +138,21 @@ frameVerdict old waiting posted sent dropped kept withdrawn schedule =
     (refuse (spent (old .frames)) CallsSpent
     Accepted))))))
 
+-- the same in document 01's numbers, each with its place
+unfoldable pub frameNotice : (old : Run) (waiting posted sent dropped : List ℕ) (kept withdrawn schedule : ℕ) → Notice
+frameNotice old waiting posted sent dropped kept withdrawn schedule =
+    check (nodesOut (old .nodes)) 1 0
+    (check (slotsOut (old .slots)) 2 0
+    (check (ruleOut (old .rule)) 3 0
+    (check (limitOut (old .limit)) 7 0
+    (check
+    (runShort (old .nodes) (length waiting) (length posted) (length sent) (length dropped) || planShort (old .nodes) (old .slots) kept withdrawn schedule)
+    5 0
+    (check (someCell (old .nodes * old .nodes) (firstDisagreeing (old .nodes) (old .limit) (old .posts) waiting posted sent dropped)) 8
+    (firstDisagreeing (old .nodes) (old .limit) (old .posts) waiting posted sent dropped)
+    (check (spent (old .frames)) 9 0
+    accepted))))))
+
 -- frames rises by 1
 unfoldable pub frameRun : (old : Run) (v : Verdict) → Run
 frameRun old Accepted = record { nodes = old .nodes; slots = old .slots; limit = old .limit; rule = old .rule; posts = old .posts; frames = old .frames + 1 }
@@ -119,6 +161,7 @@ frameRun old (Refused r) = old
 -- A frame plans with D = waiting, writes kept, withdrawn and schedule, takes kept from waiting, adds it to sent. A refusal writes nothing.
 pub record Framed (old : Run) (waiting posted sent dropped kept withdrawn schedule waiting' sent' kept' withdrawn' schedule' : List ℕ) (r : Answer) : Type 0 where
   pub answer : verdictOf r ≡ frameVerdict old waiting posted sent dropped (length kept) (length withdrawn) (length schedule)
+  pub notice : noticeOf (verdictOf r) ≡ frameNotice old waiting posted sent dropped (length kept) (length withdrawn) (length schedule)
   pub accepted : verdictOf r ≡ Accepted → Wrote (old .nodes) (old .slots) (old .rule) (wholeFrame (old .nodes) (old .slots)) waiting kept withdrawn schedule kept' withdrawn' schedule' r
   pub now-waiting : verdictOf r ≡ Accepted → waiting' ≡ written (old .nodes * old .nodes) (tab (old .nodes * old .nodes) (λ p. getD waiting p 0 - getD kept' p 0)) waiting
   pub now-sent : verdictOf r ≡ Accepted → sent' ≡ written (old .nodes * old .nodes) (tab (old .nodes * old .nodes) (λ p. getD sent p 0 + getD kept' p 0)) sent

@@ -13,10 +13,11 @@ use Rattle.sums.proofs.Tables.{take-cell, place-split, at-place}
 use Rattle.star.specs.declared.refusals.Refusal.{Refusal}
 use Rattle.star.specs.declared.refusals.Verdict.{Verdict}
 use Rattle.star.specs.declared.refusals.Verdict.the-variants as verdict
+use Rattle.star.specs.Refusals.{noticeOf}
 use Rattle.star.specs.Tables.{Demands}
 use Rattle.star.specs.Lines.{total, wholeFrame, Admissible}
 use Rattle.star.specs.Schedules.{Carries, reconfigurations}
-use Rattle.star.proofs.RefusalLaws.{never, passed, neither-of, in-sizes, within-range}
+use Rattle.star.proofs.RefusalLaws.{in-numbers, never, passed, neither-of, in-sizes, within-range}
 use Rattle.star.proofs.LineLaws.{capacity, whole-frame-fits}
 use Rattle.fair.specs.Fair.{fairKept}
 use Rattle.fair.proofs.Steps.{fair-below}
@@ -25,7 +26,7 @@ use Rattle.least.proofs.Keeping.{kept-below}
 use Rattle.planner.specs.declared.answers.Answer.{Answer}
 use Rattle.planner.specs.declared.answers.Answer.the-variants.{Planned, Refused}
 use Rattle.planner.specs.Kept.{KeepRoom, Kept}
-use Rattle.planner.specs.Plans.{verdictOf, planVerdict, PlanRoom, Plan, Wrote, PlanResult}
+use Rattle.planner.specs.Plans.{verdictOf, planVerdict, planNotice, PlanRoom, Plan, Wrote, PlanResult}
 
 -- a matrix that is at most another at each pair has at most its total
 pub total-below : (n : ℕ) (d k : List ℕ) → ((i j : ℕ) → i < n → j < n → cell n k i j ≤ cell n d i j) → total n k ≤ total n d
@@ -48,9 +49,12 @@ module _ {n l rule : ℕ} {cap d kept withdrawn schedule : List ℕ} (room : Pla
   fits-frame k h = record { lines = λ ℓ p. omega (arith, h .lines ℓ p, room .most ℓ p, capacity n l ℓ p) }
 
   pub written-plan : {kept' withdrawn' schedule' : List ℕ} (k f c : ℕ) → Kept n rule cap d kept withdrawn kept' withdrawn' → Carries n l schedule' kept' → drop (l * n) schedule' ≡ drop (l * n) schedule →
-      k ≡ total n kept' → f ≡ total n d - total n kept' → c ≡ reconfigurations n l schedule' → Wrote n l rule cap d kept withdrawn schedule kept' withdrawn' schedule' (Planned k f c)
-  written-plan k f c kd carries rest ek ef ec = record {
+      length kept' ≡ length kept → length withdrawn' ≡ length withdrawn → length schedule' ≡ length schedule → k ≡ total n kept' → f ≡ total n d - total n kept' → c ≡ reconfigurations n l schedule' → Wrote n l rule cap d kept withdrawn schedule kept' withdrawn' schedule' (Planned k f c)
+  written-plan k f c kd carries rest kept-same withdrawn-same schedule-same ek ef ec = record {
     plan = record { fair = kd .fair; least = λ e. kd .least (λ z. omega arith); carried = carries };
+    kept-length = kept-same;
+    withdrawn-length = withdrawn-same;
+    schedule-length = schedule-same;
     kept-rest = kd .kept-rest;
     withdrawn-rest = kd .withdrawn-rest;
     schedule-rest = rest;
@@ -90,11 +94,20 @@ whole-room {n} {l} numbers demand within rooms = record {
   schedule-room = rooms .2;
 }
 
+-- the chain of refusals in numbers
+pub plan-notice : (n l rule : ℕ) (d : List ℕ) (kept withdrawn schedule : ℕ) → noticeOf (planVerdict n l rule d kept withdrawn schedule) ≡ planNotice n l rule d kept withdrawn schedule
+unfolding planVerdict planNotice
+plan-notice n l rule d kept withdrawn schedule = in-numbers _ _ _ (in-numbers _ _ _ (in-numbers _ _ _ (in-numbers _ _ _ (in-numbers _ _ _ (in-numbers _ _ _ refl)))))
+
 module _ (n l rule : ℕ) (d kept withdrawn schedule : List ℕ) {v : Verdict} (is : v ≡ planVerdict n l rule d (length kept) (length withdrawn) (length schedule)) where
+  noted : (u : Verdict) → u ≡ v → noticeOf u ≡ planNotice n l rule d (length kept) (length withdrawn) (length schedule)
+  noted u e = ap noticeOf (e ∙ is) ∙ plan-notice n l rule d (length kept) (length withdrawn) (length schedule)
+
   -- a refusal writes nothing
   pub refused-plan : {x : Refusal} → v ≡ verdict.Refused x → PlanResult n l rule d kept withdrawn schedule kept withdrawn schedule (Refused x)
   refused-plan e = record {
     answer = sym e ∙ is;
+    notice = noted _ (sym e);
     accepted = λ q. absurd (never q);
     refused = λ y q. (refl, refl, refl);
   }
@@ -119,6 +132,7 @@ module _ (n l rule : ℕ) (d kept withdrawn schedule : List ℕ) {v : Verdict} (
       verdictOf r ≡ verdict.Accepted → PlanResult n l rule d kept withdrawn schedule kept' withdrawn' schedule' r
   accepted-plan e w a = record {
     answer = a ∙ sym e ∙ is;
+    notice = noted _ (a ∙ sym e);
     accepted = λ _. w;
     refused = λ y q. absurd (never (sym q ∙ a));
   }

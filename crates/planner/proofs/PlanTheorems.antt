@@ -4,24 +4,22 @@ use Prim.Native.Nat.{ℕ, _+_, _-_, _*_, _≤_, _<_}
 use native.Mathlib.Omega.{arith}
 use mathlib.Core.Path.{_≡_, refl, sym, _∙_, ap, ap₂}
 use mathlib.Core.Logic.{inl}
-use mathlib.Core.Bool.{Bool, true, false}
 use mathlib.Core.List.{List, [], _∷_, _++_}
 use lib.ListN.{length, getD, take, drop, take-append-drop, getD-replicate}
-use lib.Dec.{ltb}
 use borrow.Author.Tests.{ltb-false, le-ltb}
 use Rattle.sums.specs.Sums.{sumTo, hit}
 use Rattle.sums.specs.Tables.{cell, tab, square}
 use Rattle.sums.proofs.Cases.{by-eq}
 use Rattle.sums.proofs.Sums.{sum-ext, sum-add}
-use Rattle.sums.proofs.Searches.{first-none}
 use Rattle.sums.proofs.Tables.{take-cell}
 use Rattle.star.specs.declared.refusals.Refusal.{Refusal}
-use Rattle.star.specs.declared.refusals.Verdict.{Verdict}
 use Rattle.star.specs.declared.refusals.Verdict.the-variants as verdict
-use Rattle.star.specs.Refusals.{refuse, firstAbove}
+use Rattle.star.specs.Tables.{Alike}
+use Rattle.star.specs.Checks.{Sizes}
 use Rattle.star.specs.Lines.{total, wholeFrame, lineSum, onLine, sourceOn, destinationOn, Admissible}
 use Rattle.star.specs.Schedules.{ConflictFree, Carries, count, refusedBy}
-use Rattle.star.proofs.RefusalLaws.{passed}
+use Rattle.star.proofs.RefusalLaws.{passes, never, passed, neither, sizes-fit, none-above}
+use Rattle.star.proofs.AlikeLaws.{alike-cell, alike-above, both-long}
 use Rattle.star.proofs.LineLaws.{line-ext, total-ext}
 use Rattle.fair.specs.Fair.{fairKept, steps, step, uncut, taken, smaller, exceeds, numerator, modifiedSum, unmodifiedSum, modified, cutLine, cutCell}
 use Rattle.fair.proofs.Steps.{fair-admissible, fair-below}
@@ -31,8 +29,9 @@ use Rattle.least.proofs.LeastIsLeast.{least-is-least-whole}
 use Rattle.planner.specs.declared.answers.Answer.{Answer}
 use Rattle.planner.specs.declared.answers.Answer.the-variants.{Planned, Refused}
 use Rattle.planner.specs.Plans.{verdictOf, keptTotal, refusedTotal, planVerdict, Plan, Wrote, PlanResult}
-use Rattle.planner.specs.Theorems.{AcceptedPlan, LeastPlan, Agree, WrongPlanners, PlanTheorems}
+use Rattle.planner.specs.Theorems.{AcceptedPlan, LeastPlan, Agree, AgreeAsNeeded, WrongPlanners, PlanTheorems}
 use Rattle.planner.proofs.PlanLaws.{total-below, plan-below}
+use Rattle.planner.proofs.NeededLaws.{first-cells, fair-ext, kept-ext, greatest-ext}
 
 -- ---- an accepted call has passed the check of its rule
 known-rule : (n l rule : ℕ) (d : List ℕ) (k a s : ℕ) → planVerdict n l rule d k a s ≡ verdict.Accepted → rule ≤ 1
@@ -93,94 +92,119 @@ glue m x y e f = sym (take-append-drop m x) ∙ ap₂ _++_ e f ∙ take-append-d
 one-total : (n : ℕ) (cap d a b : List ℕ) → Greatest n cap d a → Greatest n cap d b → total n (keptFrom n cap d a) ≡ total n (keptFrom n cap d b)
 one-total n cap d a b g h = omega (arith, refused-total g, refused-total h, g .most b (h .withdrawn), h .most a (g .withdrawn))
 
-module _ (n l rule : ℕ) (d k a s k₁ a₁ s₁ k₂ a₂ s₂ : List ℕ) (r₁ r₂ : Answer) (x₁ : PlanResult n l rule d k a s k₁ a₁ s₁ r₁) (x₂ : PlanResult n l rule d k a s k₂ a₂ s₂ r₂) where
-  same-verdict : verdictOf r₁ ≡ verdictOf r₂
-  same-verdict = x₁ .answer ∙ sym (x₂ .answer)
+-- two results on demands that agree at each pair, with the same verdict
+module _ (n l rule : ℕ) (d e k a s k₁ a₁ s₁ x b t k₂ a₂ s₂ : List ℕ) (same : (i j : ℕ) → i < n → j < n → cell n d i j ≡ cell n e i j) where
+  module _ (r₁ r₂ : Answer) (x₁ : PlanResult n l rule d k a s k₁ a₁ s₁ r₁) (x₂ : PlanResult n l rule e x b t k₂ a₂ s₂ r₂) (verdicts : verdictOf r₁ ≡ verdictOf r₂)
+      (ok : verdictOf r₁ ≡ verdict.Accepted) where
+    w₁ : Wrote n l rule (wholeFrame n l) d k a s k₁ a₁ s₁ r₁
+    w₁ = x₁ .accepted ok
 
-  module _ (ok : verdictOf r₁ ≡ verdict.Accepted) where
-    ok₂ : verdictOf r₂ ≡ verdict.Accepted
-    ok₂ = sym same-verdict ∙ ok
+    w₂ : Wrote n l rule (wholeFrame n l) e x b t k₂ a₂ s₂ r₂
+    w₂ = x₂ .accepted (sym verdicts ∙ ok)
 
-    known : rule ≤ 1
-    known = known-rule n l rule d (length k) (length a) (length s) (sym (x₁ .answer) ∙ ok)
+    fair-same : rule ≡ 0 → (take (n * n) k₁ ≡ take (n * n) k₂) × (take (n * n) a₁ ≡ take (n * n) a₂)
+    fair-same z = (w₁ .plan .fair z .0 ∙ fair-ext n (wholeFrame n l) d e same ∙ sym (w₂ .plan .fair z .0), w₁ .plan .fair z .1 ∙ sym (w₂ .plan .fair z .1))
 
-    fair-same : rule ≡ 0 → (k₁ ≡ k₂) × (a₁ ≡ a₂)
-    fair-same e =
-        let w₁ = x₁ .accepted ok in
-        let w₂ = x₂ .accepted ok₂ in (
-          glue (n * n) k₁ k₂ (w₁ .plan .fair e .0 ∙ sym (w₂ .plan .fair e .0)) (w₁ .kept-rest ∙ sym (w₂ .kept-rest)),
-          glue (n * n) a₁ a₂ (w₁ .plan .fair e .1 ∙ sym (w₂ .plan .fair e .1)) (w₁ .withdrawn-rest ∙ sym (w₂ .withdrawn-rest)),
-        )
-
-    least-same : rule ≡ 1 → a₁ ≡ a₂ → k₁ ≡ k₂
-    least-same e same =
-        let w₁ = x₁ .accepted ok in
-        let w₂ = x₂ .accepted ok₂ in
-        glue (n * n) k₁ k₂ (w₁ .plan .least e .1 ∙ ap (keptFrom n (wholeFrame n l) d) same ∙ sym (w₂ .plan .least e .1)) (w₁ .kept-rest ∙ sym (w₂ .kept-rest))
+    least-same : rule ≡ 1 → take (n * n) a₁ ≡ take (n * n) a₂ → take (n * n) k₁ ≡ take (n * n) k₂
+    least-same u alike = w₁ .plan .least u .1 ∙ kept-ext n (wholeFrame n l) d e same a₁ a₂ (first-cells n a₁ a₂ alike) ∙ sym (w₂ .plan .least u .1)
 
     kept-same : keptTotal r₁ ≡ keptTotal r₂
     kept-same =
         by-eq rule 0
-        (λ e. x₁ .accepted ok .kept-total ∙ ap (total n) (fair-same e .0) ∙ sym (x₂ .accepted ok₂ .kept-total))
+        (λ z. w₁ .kept-total ∙ total-ext n k₁ k₂ (first-cells n k₁ k₂ (fair-same z .0)) ∙ sym (w₂ .kept-total))
         (λ ne.
-        let e : rule ≡ 1 = omega (arith, known) in
-        let w₁ = x₁ .accepted ok in
-        let w₂ = x₂ .accepted ok₂ in
+        let u : rule ≡ 1 = omega (arith, known-rule n l rule d (length k) (length a) (length s) (sym (x₁ .answer) ∙ ok)) in
+        let g = w₁ .plan .least u in
+        let h = w₂ .plan .least u in
         omega (
           arith,
           w₁ .kept-total,
           w₂ .kept-total,
-          total-ext n k₁ (keptFrom n (wholeFrame n l) d a₁) (take-cell n k₁ (keptFrom n (wholeFrame n l) d a₁) (w₁ .plan .least e .1)),
-          total-ext n k₂ (keptFrom n (wholeFrame n l) d a₂) (take-cell n k₂ (keptFrom n (wholeFrame n l) d a₂) (w₂ .plan .least e .1)),
-          one-total n (wholeFrame n l) d a₁ a₂ (w₁ .plan .least e .0) (w₂ .plan .least e .0),
+          total-ext n k₁ (keptFrom n (wholeFrame n l) d a₁) (take-cell n k₁ (keptFrom n (wholeFrame n l) d a₁) (g .1)),
+          total-ext n k₂ (keptFrom n (wholeFrame n l) e a₂) (take-cell n k₂ (keptFrom n (wholeFrame n l) e a₂) (h .1)),
+          one-total n (wholeFrame n l) e a₁ a₂ (greatest-ext n (wholeFrame n l) d e a₁ same (g .0)) (h .0),
+          ap (total n) (kept-ext n (wholeFrame n l) d e same a₁ a₁ (λ i j hi hj. refl)),
         ))
 
     refused-same : refusedTotal r₁ ≡ refusedTotal r₂
-    refused-same = omega (
-      arith,
-      kept-same,
-      x₁ .accepted ok .kept-total,
-      x₂ .accepted ok₂ .kept-total,
-      x₁ .accepted ok .refused-total,
-      x₂ .accepted ok₂ .refused-total,
-    )
+    refused-same = omega (arith, kept-same, w₁ .kept-total, w₂ .kept-total, w₁ .refused-total, w₂ .refused-total, total-ext n d e same)
+
+  agreed : (r₁ r₂ : Answer) → PlanResult n l rule d k a s k₁ a₁ s₁ r₁ → PlanResult n l rule e x b t k₂ a₂ s₂ r₂ → verdictOf r₁ ≡ verdictOf r₂ → AgreeAsNeeded n rule k₁ a₁ k₂ a₂ r₁ r₂
+  agreed (Planned y z w) r₂ x₁ x₂ verdicts = record {
+    verdicts = verdicts;
+    kept-totals = kept-same (Planned y z w) r₂ x₁ x₂ verdicts refl;
+    refused-totals = refused-same (Planned y z w) r₂ x₁ x₂ verdicts refl;
+    fair-cells = fair-same (Planned y z w) r₂ x₁ x₂ verdicts;
+    least-cells = least-same (Planned y z w) r₂ x₁ x₂ verdicts;
+  }
+  agreed (Refused y) (Planned z w u) x₁ x₂ verdicts = absurd (never verdicts)
+  agreed (Refused y) (Refused z) x₁ x₂ verdicts = record {
+    verdicts = verdicts;
+    kept-totals = refl;
+    refused-totals = refl;
+    fair-cells = λ ok. absurd (never ok);
+    least-cells = λ ok. absurd (never ok);
+  }
 
 pub plan-unique : (n l rule : ℕ) (d k a s k₁ a₁ s₁ k₂ a₂ s₂ : List ℕ) (r₁ r₂ : Answer) → PlanResult n l rule d k a s k₁ a₁ s₁ r₁ → PlanResult n l rule d k a s k₂ a₂ s₂ r₂ →
     Agree n l rule d k a s k₁ a₁ s₁ k₂ a₂ s₂ r₁ r₂
-plan-unique n l rule d k a s k₁ a₁ s₁ k₂ a₂ s₂ (Planned x y z) r₂ x₁ x₂ = record {
-  verdicts = same-verdict n l rule d k a s k₁ a₁ s₁ k₂ a₂ s₂ (Planned x y z) r₂ x₁ x₂;
-  kept-totals = kept-same n l rule d k a s k₁ a₁ s₁ k₂ a₂ s₂ (Planned x y z) r₂ x₁ x₂ refl;
-  refused-totals = refused-same n l rule d k a s k₁ a₁ s₁ k₂ a₂ s₂ (Planned x y z) r₂ x₁ x₂ refl;
-  refused-cells = λ q e. let z : _≡_ {A = ℕ} 0 1 = cc in absurd (omega arith);
-  fair-cells = fair-same n l rule d k a s k₁ a₁ s₁ k₂ a₂ s₂ (Planned x y z) r₂ x₁ x₂;
-  least-cells = least-same n l rule d k a s k₁ a₁ s₁ k₂ a₂ s₂ (Planned x y z) r₂ x₁ x₂;
-}
-plan-unique n l rule d k a s k₁ a₁ s₁ k₂ a₂ s₂ (Refused x) (Planned y z w) x₁ x₂ =
-    let e = x₁ .answer ∙ sym (x₂ .answer) in
-    let z : _≡_ {A = ℕ} 0 1 = cc in
-    absurd (omega arith)
-plan-unique n l rule d k a s k₁ a₁ s₁ k₂ a₂ s₂ (Refused x) (Refused y) x₁ x₂ =
-    let u = x₁ .refused x refl in
-    let v = x₂ .refused y refl in
+plan-unique n l rule d k a s k₁ a₁ s₁ k₂ a₂ s₂ r₁ r₂ x₁ x₂ =
+    let verdicts = x₁ .answer ∙ sym (x₂ .answer) in
+    let g = agreed n l rule d d k a s k₁ a₁ s₁ k a s k₂ a₂ s₂ (λ i j hi hj. refl) r₁ r₂ x₁ x₂ verdicts in
     record {
-      verdicts = x₁ .answer ∙ sym (x₂ .answer);
-      kept-totals = refl;
-      refused-totals = refl;
-      refused-cells = λ q e. (u .0 ∙ sym (v .0), u .1 ∙ sym (v .1), u .2 ∙ sym (v .2));
-      fair-cells = λ e. let z : _≡_ {A = ℕ} 0 1 = cc in absurd (omega arith);
-      least-cells = λ e. let z : _≡_ {A = ℕ} 0 1 = cc in absurd (omega arith);
+      verdicts = verdicts;
+      kept-totals = g .kept-totals;
+      refused-totals = g .refused-totals;
+      refused-cells = λ q e.
+          let u = x₁ .refused q e in
+          let v = x₂ .refused q (sym verdicts ∙ e) in
+          (u .0 ∙ sym (v .0), u .1 ∙ sym (v .1), u .2 ∙ sym (v .2));
+      fair-cells = λ ok z.
+          let w₁ = x₁ .accepted ok in
+          let w₂ = x₂ .accepted (sym verdicts ∙ ok) in
+          let first = g .fair-cells ok z in (
+            glue (n * n) k₁ k₂ (first .0) (w₁ .kept-rest ∙ sym (w₂ .kept-rest)),
+            glue (n * n) a₁ a₂ (first .1) (w₁ .withdrawn-rest ∙ sym (w₂ .withdrawn-rest)),
+          );
+      least-cells = λ ok u same.
+          glue (n * n) k₁ k₂ (g .least-cells ok u (ap (take (n * n)) same)) (x₁ .accepted ok .kept-rest ∙ sym (x₂ .accepted (sym verdicts ∙ ok) .kept-rest));
     }
+
+alike-verdict : (n l rule : ℕ) (d e : List ℕ) (k a s x b t : ℕ) → Alike (n * n) d e → (n * n ≤ k) × (n * n ≤ a) × (l * n ≤ s) → (n * n ≤ x) × (n * n ≤ b) × (l * n ≤ t) →
+    planVerdict n l rule d k a s ≡ planVerdict n l rule e x b t
+unfolding planVerdict
+alike-verdict n l rule d e k a s x b t same one other =
+    rw (both-long (same .first-room) (same .second-room), both-long (one .0) (other .0), both-long (one .1) (other .1), both-long (one .2) (other .2), alike-above n same) refl
+
+pub plan-needed : (n l rule : ℕ) (d e k a s k₁ a₁ s₁ x b t k₂ a₂ s₂ : List ℕ) (r₁ r₂ : Answer) → PlanResult n l rule d k a s k₁ a₁ s₁ r₁ → PlanResult n l rule e x b t k₂ a₂ s₂ r₂ →
+    Alike (n * n) d e → (n * n ≤ length k) × (n * n ≤ length a) × (l * n ≤ length s) → (n * n ≤ length x) × (n * n ≤ length b) × (l * n ≤ length t) →
+    AgreeAsNeeded n rule k₁ a₁ k₂ a₂ r₁ r₂
+plan-needed n l rule d e k a s k₁ a₁ s₁ x b t k₂ a₂ s₂ r₁ r₂ x₁ x₂ same one other =
+    agreed n l rule d e k a s k₁ a₁ s₁ x b t k₂ a₂ s₂ (alike-cell n same) r₁ r₂ x₁ x₂
+    (x₁ .answer ∙ alike-verdict n l rule d e (length k) (length a) (length s) (length x) (length b) (length t) same one other ∙ sym (x₂ .answer))
+
+-- ---- one result
+pub plan-lengths : (n l rule : ℕ) (d k a s k' a' s' : List ℕ) (r : Answer) → PlanResult n l rule d k a s k' a' s' r → (length k' ≡ length k) × (length a' ≡ length a) × (length s' ≡ length s)
+plan-lengths n l rule d k a s k' a' s' (Planned x y z) result = let w = result .accepted refl in (w .kept-length, w .withdrawn-length, w .schedule-length)
+plan-lengths n l rule d k a s k' a' s' (Refused x) result = let u = result .refused x refl in (ap length (u .0), ap length (u .1), ap length (u .2))
+
+-- numbers in their ranges, tables that are long enough and no demand above the limit
+pub plan-accepts : (n l rule : ℕ) (d : List ℕ) (k a s : ℕ) → Sizes n l → rule ≤ 1 → n * n ≤ length d → (n * n ≤ k) × (n * n ≤ a) × (l * n ≤ s) →
+    ((p : ℕ) → p < n * n → getD d p 0 ≤ 65535) → verdict.Accepted ≡ planVerdict n l rule d k a s
+unfolding planVerdict
+plan-accepts n l rule d k a s sizes known cells tables most =
+    sizes-fit n l sizes
+    (passes _ (le-ltb 1 rule known)
+    (passes _ (le-ltb _ _ cells)
+    (passes _ (neither _ _ (neither _ _ (le-ltb _ _ (tables .0)) (le-ltb _ _ (tables .1))) (le-ltb _ _ (tables .2)))
+    (passes _ (none-above n d most) refl))))
 
 -- ---- the wrong planners
 -- one slot for one node: the demand of 1 is accepted ..
-one-within : (x : ℕ) → x ≤ 1 → firstAbove 1 (x ∷ []) ≡ 1
-unfolding firstAbove
-one-within x h = first-none (λ p. ltb 65535 (getD (x ∷ []) p 0)) 1 (λ q lt. let e : q ≡ 0 = omega arith in rw e (le-ltb 65535 x (omega arith)))
-
 one-accepted : (rule x : ℕ) (k a s : List ℕ) → rule ≤ 1 → x ≤ 1 → 1 ≤ length k → 1 ≤ length a → 1 ≤ length s → planVerdict 1 1 rule (x ∷ []) (length k) (length a) (length s) ≡ verdict.Accepted
-unfolding planVerdict refuse
 one-accepted rule x k a s hr hx hk ha hs =
-    simp (le-ltb 1 rule hr, le-ltb (length k) 1 hk, le-ltb (length a) 1 ha, le-ltb (length s) 1 hs, one-within x hx)
+    sym (plan-accepts 1 1 rule (x ∷ []) (length k) (length a) (length s) (record { some-nodes = omega arith; nodes = omega arith; some-slots = omega arith; slots = omega arith })
+    hr (omega arith) (hk, ha, hs) (λ p lt. let e : p ≡ 0 = omega arith in rw e (omega arith)))
 
 -- .. the schedule that names source 0 in its slot has no conflict and refuses nothing of it ..
 one-slot : ConflictFree 1 1 (0 ∷ [])
@@ -260,4 +284,14 @@ wrong-planners = record {
 
 -- all of it
 pub plan-theorems : PlanTheorems
-plan-theorems = record { accepted = plan-accepted; least = plan-least; unique = plan-unique; wrong = wrong-planners }
+plan-theorems = record {
+  accepts = λ n l rule d k a s k' a' s' r result p q t u known cells kept withdrawn schedule most.
+      result .answer
+      ∙ sym (plan-accepts n l rule d (length k) (length a) (length s) (record { some-nodes = p; nodes = q; some-slots = t; slots = u }) known cells (kept, withdrawn, schedule) most);
+  accepted = plan-accepted;
+  least = plan-least;
+  unique = plan-unique;
+  needed = plan-needed;
+  lengths = plan-lengths;
+  wrong = wrong-planners;
+}

@@ -8,7 +8,7 @@ use Rattle.star.specs.declared.refusals.Refusal.{Refusal}
 use Rattle.star.specs.declared.refusals.Refusal.the-variants.{Nodes, Slots, Rule, DemandShort, TableShort, DemandAbove}
 use Rattle.star.specs.declared.refusals.Verdict.{Verdict}
 use Rattle.star.specs.declared.refusals.Verdict.the-variants as verdict
-use Rattle.star.specs.Refusals.{refuse, nodesOut, slotsOut, ruleOut, short, someCell, firstAbove}
+use Rattle.star.specs.Refusals.{Notice, noticeOf, accepted, check, refuse, nodesOut, slotsOut, ruleOut, short, someCell, firstAbove}
 use Rattle.star.specs.Tables.{Demands}
 use Rattle.star.specs.Lines.{total, wholeFrame}
 use Rattle.star.specs.Schedules.{Carries, reconfigurations}
@@ -50,6 +50,17 @@ planVerdict n l rule d kept withdrawn schedule =
     (refuse (someCell (n * n) (firstAbove n d)) (DemandAbove (firstAbove n d))
     verdict.Accepted)))))
 
+-- the same in document 01's numbers, each with its place
+unfoldable pub planNotice : (n l rule : ℕ) (d : List ℕ) (kept withdrawn schedule : ℕ) → Notice
+planNotice n l rule d kept withdrawn schedule =
+    check (nodesOut n) 1 0
+    (check (slotsOut l) 2 0
+    (check (ruleOut rule) 3 0
+    (check (short (length d) (n * n)) 4 0
+    (check (planShort n l kept withdrawn schedule) 5 0
+    (check (someCell (n * n) (firstAbove n d)) 6 (firstAbove n d)
+    accepted)))))
+
 -- A plan of D with the given capacities: what the first cells of its three tables are. Under rule 0 the withdrawn table is filled with
 -- zeros; under rule 1 it is any greatest withdrawn matrix, and kept follows from it. Which slots a pair gets is free.
 pub record Plan (n l rule : ℕ) (cap d kept withdrawn schedule : List ℕ) : Type 0 where
@@ -57,10 +68,13 @@ pub record Plan (n l rule : ℕ) (cap d kept withdrawn schedule : List ℕ) : Ty
   pub least : rule ≡ 1 → (Greatest n cap d withdrawn) × (take (n * n) kept ≡ keptFrom n cap d withdrawn)
   pub carried : Carries n l schedule kept
 
--- An accepted plan: the three tables hold one, their further cells are as before; reported are the kept total, the refused total (D's total
+-- An accepted plan: the three tables hold one, are as long as before, and their further cells are as before; reported are the kept total, the refused total (D's total
 -- minus the kept total) and the reconfigurations.
 pub record Wrote (n l rule : ℕ) (cap d kept withdrawn schedule kept' withdrawn' schedule' : List ℕ) (r : Answer) : Type 0 where
   pub plan : Plan n l rule cap d kept' withdrawn' schedule'
+  pub kept-length : length kept' ≡ length kept
+  pub withdrawn-length : length withdrawn' ≡ length withdrawn
+  pub schedule-length : length schedule' ≡ length schedule
   pub kept-rest : drop (n * n) kept' ≡ drop (n * n) kept
   pub withdrawn-rest : drop (n * n) withdrawn' ≡ drop (n * n) withdrawn
   pub schedule-rest : drop (l * n) schedule' ≡ drop (l * n) schedule
@@ -86,5 +100,6 @@ pub record PlanRoom (n l rule : ℕ) (cap d kept withdrawn schedule : List ℕ) 
 -- What `plan` promises for every input: the tables lent, what they hold at exit, and the answer. A refusal writes nothing.
 pub record PlanResult (n l rule : ℕ) (d kept withdrawn schedule kept' withdrawn' schedule' : List ℕ) (r : Answer) : Type 0 where
   pub answer : verdictOf r ≡ planVerdict n l rule d (length kept) (length withdrawn) (length schedule)
+  pub notice : noticeOf (verdictOf r) ≡ planNotice n l rule d (length kept) (length withdrawn) (length schedule)
   pub accepted : verdictOf r ≡ verdict.Accepted → Wrote n l rule (wholeFrame n l) d kept withdrawn schedule kept' withdrawn' schedule' r
   pub refused : (x : Refusal) → verdictOf r ≡ verdict.Refused x → (kept' ≡ kept) × (withdrawn' ≡ withdrawn) × (schedule' ≡ schedule)

@@ -3,52 +3,46 @@
 use Prim.Native.Nat.{ℕ, _+_, _-_, _*_, _≤_, _<_}
 use native.Mathlib.Omega.{arith}
 use mathlib.Core.Path.{_≡_, refl, sym, _∙_, ap}
-use mathlib.Core.Bool.{false}
 use mathlib.Core.List.{List}
-use lib.Dec.{ltb}
-use lib.ListN.{length, getD}
-use borrow.Author.Tests.{le-ltb}
+use lib.ListN.{length, getD, take}
+use lib.Seq.{getD-take}
 use Rattle.sums.specs.Tables.{tab, written}
-use Rattle.sums.proofs.Searches.{first-none}
 use Rattle.star.specs.declared.refusals.Refusal.{Refusal}
 use Rattle.star.specs.declared.refusals.Verdict.the-variants.{Accepted}
-use Rattle.star.specs.Refusals.{outside, firstAbove}
-use Rattle.star.proofs.RefusalLaws.{never, passes, neither}
+use Rattle.star.specs.Refusals.{noticeOf}
+use Rattle.star.proofs.RefusalLaws.{never}
+use Rattle.star.proofs.AlikeLaws.{alike-at}
 use Rattle.planner.specs.declared.answers.Answer.{Answer}
 use Rattle.planner.specs.declared.answers.Answer.the-variants as answer
-use Rattle.planner.specs.Plans.{verdictOf, planVerdict, PlanResult}
-use Rattle.planner.specs.Theorems.{Agree}
-use Rattle.planner.proofs.PlanTheorems.{plan-unique}
+use Rattle.planner.specs.Plans.{verdictOf, PlanResult}
+use Rattle.planner.specs.Theorems.{Agree, AgreeAsNeeded}
+use Rattle.planner.proofs.PlanLaws.{plan-notice}
+use Rattle.planner.proofs.PlanTheorems.{plan-accepts, plan-unique, plan-needed}
 use Rattle.calls.specs.declared.record.Run.{Run}
-use Rattle.calls.specs.Runs.{Framed}
-use Rattle.calls.proofs.Verdicts.{FrameFits, frame-accepted}
-use Rattle.run.specs.Frames.{FramesAgree, FrameTheorems}
-
-inside : (low high x : ℕ) → low ≤ x → x ≤ high → outside low high x ≡ false
-inside low high x h k = simp (le-ltb x low h, le-ltb high x k)
-
-none-above : (n : ℕ) (d : List ℕ) → ((p : ℕ) → p < n * n → getD d p 0 ≤ 65535) → firstAbove n d ≡ n * n
-unfolding firstAbove
-none-above n d most = first-none (λ p. ltb 65535 (getD d p 0)) (n * n) (λ p h. le-ltb 65535 (getD d p 0) (most p h))
-
-module _ {old : Run} {w p s d : List ℕ} {k a q : ℕ} (fits : FrameFits old w p s d k a q) where
-  plan-accepts : Accepted ≡ planVerdict (old .nodes) (old .slots) (old .rule) w k a q
-  unfolding planVerdict
-  plan-accepts =
-      passes _ (inside 1 64 (old .nodes) (fits .ranges .some-nodes) (fits .ranges .nodes))
-      (passes _ (inside 1 1024 (old .slots) (fits .ranges .some-slots) (fits .ranges .slots))
-      (passes _ (le-ltb 1 (old .rule) (fits .ranges .known-rule))
-      (passes _ (le-ltb (length w) (old .nodes * old .nodes) (fits .tables .queues .cells))
-      (passes _ (neither _ _ (neither _ _ (le-ltb k (old .nodes * old .nodes) (fits .kept-room)) (le-ltb a (old .nodes * old .nodes) (fits .withdrawn-room))) (le-ltb q (old .slots * old .nodes) (fits .schedule-room)))
-      (passes _ (le-ltb (firstAbove (old .nodes) w) (old .nodes * old .nodes) (omega (arith, none-above (old .nodes) w (λ c h. omega (arith, fits .order .books c h, fits .ranges .room))))) refl)))))
+use Rattle.calls.specs.Runs.{frameVerdict, frameRun, Framed}
+use Rattle.calls.proofs.Verdicts.{frame-accepts, frame-accepted, alike-frames}
+use Rattle.run.specs.Held.{Held, FrameCall}
+use Rattle.run.specs.Theorems.{HeldAlike, SameLengths, FramesAgree, FramesAgreeAsNeeded, FrameTheorems}
+use Rattle.run.proofs.CallLaws.{alike-by, longer-by, held-same, lengths-same, alike-same, ready-tables, ready-order}
 
 pub frame-planned : (old : Run) (w p s d k a q w' s' k' a' q' : List ℕ) (r : Answer) → Framed old w p s d k a q w' s' k' a' q' r → verdictOf r ≡ Accepted →
     PlanResult (old .nodes) (old .slots) (old .rule) w k a q k' a' q' r
-frame-planned old w p s d k a q w' s' k' a' q' r f ok = record {
-  answer = ok ∙ plan-accepts (frame-accepted old w p s d (length k) (length a) (length q) (sym (f .answer) ∙ ok));
-  accepted = λ _. f .accepted ok;
-  refused = λ x e. absurd (never (sym e ∙ ok));
-}
+frame-planned old w p s d k a q w' s' k' a' q' r f ok =
+    let fits = frame-accepted old w p s d (length k) (length a) (length q) (sym (f .answer) ∙ ok) in
+    let answered =
+        ok
+        ∙ plan-accepts (old .nodes) (old .slots) (old .rule) w (length k) (length a) (length q)
+        (record { some-nodes = fits .ranges .some-nodes; nodes = fits .ranges .nodes; some-slots = fits .ranges .some-slots; slots = fits .ranges .slots })
+        (fits .ranges .known-rule)
+        (fits .tables .queues .cells)
+        (fits .kept-room, fits .withdrawn-room, fits .schedule-room)
+        (λ c h. omega (arith, fits .order .books c h, fits .ranges .room)) in
+    record {
+      answer = answered;
+      notice = ap noticeOf answered ∙ plan-notice (old .nodes) (old .slots) (old .rule) w (length k) (length a) (length q);
+      accepted = λ _. f .accepted ok;
+      refused = λ x e. absurd (never (sym e ∙ ok));
+    }
 
 -- ---- two frames
 module _ (old : Run) (w p s d k a q w₁ s₁ k₁ a₁ q₁ w₂ s₂ k₂ a₂ q₂ : List ℕ) (r₁ r₂ : Answer) (f₁ : Framed old w p s d k a q w₁ s₁ k₁ a₁ q₁ r₁) (f₂ : Framed old w p s d k a q w₂ s₂ k₂ a₂ q₂ r₂)
@@ -97,5 +91,113 @@ frame-unique old w p s d k a q w₁ s₁ k₁ a₁ q₁ w₂ s₂ k₂ a₂ q₂
       least-cells = λ ok e same. absurd (never ok);
     }
 
+-- ---- a frame on what is held
+module _ {k a q k' a' q' : List ℕ} {h h' : Held} where
+  -- a refused frame changes nothing
+  pub frame-unchanged : {x : Refusal} → FrameCall k a q k' a' q' h h' (answer.Refused x) → h ≡ h'
+  unfolding frameRun
+  frame-unchanged {x} c =
+      let same = c .tables .refused x refl in
+      held-same (sym (c .record')) (sym (same .0)) (sym (c .same-posted)) (sym (same .1)) (sym (c .same-dropped))
+
+  frame-lengths : (r : Answer) → FrameCall k a q k' a' q' h h' r → SameLengths h h' × (length k' ≡ length k) × (length a' ≡ length a) × (length q' ≡ length q)
+  frame-lengths (answer.Refused x) c =
+      let same = c .tables .refused x refl in
+      (lengths-same (frame-unchanged c), ap length (same .2), ap length (same .3), ap length (same .4))
+  frame-lengths (answer.Planned x y z) c =
+      let t = frame-accepted (h .run) (h .waiting) (h .posted) (h .sent) (h .dropped) (length k) (length a) (length q) (sym (c .tables .answer)) .tables in
+      let w = c .tables .accepted refl in (
+        record {
+          waiting = ap length (c .tables .now-waiting refl) ∙ longer-by _ _ (h .waiting) (t .queues .cells);
+          posted = ap length (c .same-posted);
+          sent = ap length (c .tables .now-sent refl) ∙ longer-by _ _ (h .sent) (t .sendings .cells);
+          dropped = ap length (c .same-dropped);
+        },
+        w .kept-length,
+        w .withdrawn-length,
+        w .schedule-length,
+      )
+
+-- ---- two frames on what agrees in the cells needed
+module _ (k a q k₁ a₁ q₁ x b t k₂ a₂ q₂ : List ℕ) (h h' g g' : Held) (same : HeldAlike (h .run .nodes) h g) where
+  abbrev m : ℕ
+  m = h .run .nodes * h .run .nodes
+
+  -- where both keep the same, what is held then agrees
+  module _ (r₁ r₂ : Answer) (c : FrameCall k a q k₁ a₁ q₁ h h' r₁) (d : FrameCall x b t k₂ a₂ q₂ g g' r₂) (ok₁ : verdictOf r₁ ≡ Accepted) (ok₂ : verdictOf r₂ ≡ Accepted) where
+    held-then : take m k₁ ≡ take m k₂ → HeldAlike (h .run .nodes) h' g'
+    held-then e = record {
+      run = c .record' ∙ ap (frameRun (h .run)) (ok₁ ∙ sym ok₂) ∙ ap (λ r. frameRun r (verdictOf r₂)) (same .run) ∙ sym (d .record');
+      waiting = rw (c .tables .now-waiting ok₁, d .tables .now-waiting ok₂, sym (same .run)) (alike-by m _ _ (h .waiting) (g .waiting) (λ p lt. rw (alike-at (same .waiting) p lt, kept-at p lt) refl));
+      posted = rw (c .same-posted, d .same-posted) (same .posted);
+      sent = rw (c .tables .now-sent ok₁, d .tables .now-sent ok₂, sym (same .run)) (alike-by m _ _ (h .sent) (g .sent) (λ p lt. rw (alike-at (same .sent) p lt, kept-at p lt) refl));
+      dropped = rw (c .same-dropped, d .same-dropped) (same .dropped);
+    }
+      where
+        kept-at : (p : ℕ) → p < m → getD k₁ p 0 ≡ getD k₂ p 0
+        kept-at p lt = sym (getD-take m k₁ p 0 lt) ∙ ap (λ y. getD y p 0) e ∙ getD-take m k₂ p 0 lt
+
+    -- each is a plan of what waits
+    plans-alike : (m ≤ length k) × (m ≤ length a) × (h .run .slots * h .run .nodes ≤ length q) → (m ≤ length x) × (m ≤ length b) × (h .run .slots * h .run .nodes ≤ length t) →
+        AgreeAsNeeded (h .run .nodes) (h .run .rule) k₁ a₁ k₂ a₂ r₁ r₂
+    plans-alike one other =
+        plan-needed (h .run .nodes) (h .run .slots) (h .run .rule) (h .waiting) (g .waiting) k a q k₁ a₁ q₁ x b t k₂ a₂ q₂ r₁ r₂
+        (frame-planned (h .run) (h .waiting) (h .posted) (h .sent) (h .dropped) k a q (h' .waiting) (h' .sent) k₁ a₁ q₁ r₁ (c .tables) ok₁)
+        (rw (same .run) (frame-planned (g .run) (g .waiting) (g .posted) (g .sent) (g .dropped) x b t (g' .waiting) (g' .sent) k₂ a₂ q₂ r₂ (d .tables) ok₂))
+        (same .waiting)
+        one
+        other
+
+    both-needed : (m ≤ length k) × (m ≤ length a) × (h .run .slots * h .run .nodes ≤ length q) → (m ≤ length x) × (m ≤ length b) × (h .run .slots * h .run .nodes ≤ length t) →
+        FramesAgreeAsNeeded (h .run .nodes) (h .run .rule) h' g' k₁ a₁ k₂ a₂ r₁ r₂
+    both-needed one other =
+        let plans = plans-alike one other in
+        record {
+          verdicts = ok₁ ∙ sym ok₂;
+          kept-totals = plans .kept-totals;
+          refused-totals = plans .refused-totals;
+          refused-held = λ y e. absurd (never (sym e ∙ ok₁));
+          fair-cells = λ ok e. let first = plans .fair-cells ok e in (held-then (first .0), first .0, first .1);
+          least-cells = λ ok e withdrawn. let first = plans .least-cells ok e withdrawn in (held-then first, first);
+        }
+
+  frame-verdict : {r₁ r₂ : Answer} → FrameCall k a q k₁ a₁ q₁ h h' r₁ → FrameCall x b t k₂ a₂ q₂ g g' r₂ →
+      (m ≤ length k) × (m ≤ length a) × (h .run .slots * h .run .nodes ≤ length q) → (m ≤ length x) × (m ≤ length b) × (h .run .slots * h .run .nodes ≤ length t) → verdictOf r₁ ≡ verdictOf r₂
+  frame-verdict c d one other =
+      c .tables .answer
+      ∙ alike-frames (h .run) (length k) (length a) (length q) (length x) (length b) (length t) (same .waiting) (same .posted) (same .sent) (same .dropped) one other
+      ∙ ap (λ r. frameVerdict r (g .waiting) (g .posted) (g .sent) (g .dropped) (length x) (length b) (length t)) (same .run)
+      ∙ sym (d .tables .answer)
+
+  frame-needed : (r₁ r₂ : Answer) → verdictOf r₁ ≡ verdictOf r₂ → FrameCall k a q k₁ a₁ q₁ h h' r₁ → FrameCall x b t k₂ a₂ q₂ g g' r₂ →
+      (m ≤ length k) × (m ≤ length a) × (h .run .slots * h .run .nodes ≤ length q) → (m ≤ length x) × (m ≤ length b) × (h .run .slots * h .run .nodes ≤ length t) →
+      FramesAgreeAsNeeded (h .run .nodes) (h .run .rule) h' g' k₁ a₁ k₂ a₂ r₁ r₂
+  frame-needed (answer.Planned y z u) r₂ verdicts c d = both-needed (answer.Planned y z u) r₂ c d refl (sym verdicts)
+  frame-needed (answer.Refused y) (answer.Planned z u v) verdicts c d one other = absurd (never verdicts)
+  frame-needed (answer.Refused y) (answer.Refused z) verdicts c d one other = record {
+    verdicts = verdicts;
+    kept-totals = refl;
+    refused-totals = refl;
+    refused-held = λ u e. alike-same (frame-unchanged c) (frame-unchanged d) same;
+    fair-cells = λ ok e. absurd (never ok);
+    least-cells = λ ok e withdrawn. absurd (never ok);
+  }
+
 pub frame-theorems : FrameTheorems
-frame-theorems = record { planned = frame-planned; unique = frame-unique }
+frame-theorems = record {
+  accepts = λ k a q k' a' q' h h' r c ready kept withdrawn schedule few.
+      c .tables .answer
+      ∙ sym (frame-accepts (h .run) (h .waiting) (h .posted) (h .sent) (h .dropped) (length k) (length a) (length q) (record {
+        ranges = ready .ranges;
+        tables = ready-tables ready;
+        kept-room = kept;
+        withdrawn-room = withdrawn;
+        schedule-room = schedule;
+        order = ready-order ready few;
+      }));
+  planned = frame-planned;
+  unique = frame-unique;
+  needed = λ k a q k₁ a₁ q₁ x b t k₂ a₂ q₂ h h' g g' r₁ r₂ c d same one other.
+      frame-needed k a q k₁ a₁ q₁ x b t k₂ a₂ q₂ h h' g g' same r₁ r₂ (frame-verdict k a q k₁ a₁ q₁ x b t k₂ a₂ q₂ h h' g g' same c d one other) c d one other;
+  lengths = λ k a q k' a' q' h h' r c. frame-lengths r c;
+}

@@ -1,7 +1,8 @@
 -- What is held between the calls of a run, and how each call takes it on.
-use Prim.Native.Nat.{ℕ}
+use Prim.Native.Nat.{ℕ, _*_, _≤_}
 use mathlib.Core.Path.{_≡_}
 use mathlib.Core.List.{List}
+use lib.ListN.{length}
 use Rattle.star.specs.declared.refusals.Verdict.{Verdict}
 use Rattle.planner.specs.declared.answers.Answer.{Answer}
 use Rattle.planner.specs.Plans.{verdictOf}
@@ -15,6 +16,13 @@ pub record Held : Type 0 where
   pub posted : List ℕ
   pub sent : List ℕ
   pub dropped : List ℕ
+
+-- each of the four tables has a cell for each pair
+pub record Roomy (n : ℕ) (h : Held) : Type 0 where
+  pub waiting : n * n ≤ length (h .waiting)
+  pub posted : n * n ≤ length (h .posted)
+  pub sent : n * n ≤ length (h .sent)
+  pub dropped : n * n ≤ length (h .dropped)
 
 -- a fresh start takes over nothing of what was held
 pub record FreshCall (n l limit rule : ℕ) (h h' : Held) (v : Verdict) : Type 0 where

@@ -1,2 +1,3 @@
--- What the entry `slacks` promises.
+-- What the entry `slacks` promises, and what follows from it.
 pub mod Slacks
+pub mod Theorems

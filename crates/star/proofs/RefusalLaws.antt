@@ -1,6 +1,7 @@
 -- Checks in their order: one that fires gives its refusal, one that does not leaves it to the later ones. And read backwards: what an accepted
 -- call has passed, and what a chain gives once its first checks are known. The laws assume nothing.
 use Prim.Native.Nat.{ℕ, _*_, _≤_, _<_}
+use native.Mathlib.Nat.{le-of-eq}
 use native.Mathlib.Omega.{arith}
 use mathlib.Core.Path.{_≡_, refl, sym, _∙_, ap}
 use mathlib.Core.Bool.{Bool, true, false, _||_}
@@ -8,13 +9,13 @@ use mathlib.Core.List.{List}
 use lib.ListN.{getD}
 use lib.Dec.{ltb}
 use borrow.Author.Tests.{lt-ltb, le-ltb, ltb-false}
-use Rattle.sums.proofs.Searches.{first-before}
+use Rattle.sums.proofs.Searches.{first-none, first-before}
 use Rattle.star.specs.declared.refusals.Refusal.{Refusal}
 use Rattle.star.specs.declared.refusals.Refusal.the-variants.{Nodes, Slots}
 use Rattle.star.specs.declared.refusals.Verdict.{Verdict}
 use Rattle.star.specs.declared.refusals.Verdict.the-variants.{Accepted, Refused}
 use Rattle.star.specs.Tables.{Demands}
-use Rattle.star.specs.Refusals.{refuse, outside, nodesOut, slotsOut, firstAbove}
+use Rattle.star.specs.Refusals.{Notice, noticeOf, check, refusalNumber, refusalPlace, refuse, outside, nodesOut, slotsOut, someCell, firstAbove}
 use Rattle.star.specs.Checks.{sizesVerdict, Sizes}
 
 pub fires : {b : Bool} {r : Refusal} (later : Verdict) → b ≡ true → Refused r ≡ refuse b r later
@@ -24,6 +25,12 @@ fires later e = rw e refl
 pub passes : {b : Bool} (r : Refusal) {v later : Verdict} → b ≡ false → v ≡ later → v ≡ refuse b r later
 unfolding refuse
 passes r e h = rw e h
+
+-- ---- a chain of refusals by their names says in numbers what the chain of their numbers and places says
+pub in-numbers : (b : Bool) (r : Refusal) (later : Verdict) {rest : Notice} → noticeOf later ≡ rest → noticeOf (refuse b r later) ≡ check b (refusalNumber r) (refusalPlace r) rest
+unfolding refuse check
+in-numbers true r later e = refl
+in-numbers false r later e = e
 
 -- ---- one check read backwards
 pub never : {r : Refusal} → Refused r ≡ Accepted → ⊥
@@ -68,8 +75,15 @@ neither-of false b e = (refl, e)
 pub in-its-range : (low high x : ℕ) → outside low high x ≡ false → (low ≤ x) × (x ≤ high)
 in-its-range low high x e = let h = neither-of _ _ e in (ltb-false x low (h .0), ltb-false high x (h .1))
 
+pub inside : (low high x : ℕ) → low ≤ x → x ≤ high → outside low high x ≡ false
+inside low high x p q = neither _ _ (le-ltb x low p) (le-ltb high x q)
+
 -- ---- 1, 2
 module _ (n l : ℕ) where
+  -- numbers in their ranges pass
+  pub sizes-fit : {v later : Verdict} → Sizes n l → v ≡ later → v ≡ refuse (nodesOut n) Nodes (refuse (slotsOut l) Slots later)
+  sizes-fit s e = passes Nodes (inside 1 64 n (s .some-nodes) (s .nodes)) (passes Slots (inside 1 1024 l (s .some-slots) (s .slots)) e)
+
   pub sizes-fire : {s : Refusal} {v : Verdict} (later : Verdict) → v ≡ sizesVerdict n l → v ≡ Refused s → v ≡ refuse (nodesOut n) Nodes (refuse (slotsOut l) Slots later)
   unfolding sizesVerdict
   sizes-fire later is fired = fired ∙ sym (still-fires _ _ (still-fires _ _ (λ e. absurd (never (sym e)))) (sym is ∙ fired))
@@ -94,3 +108,8 @@ module _ (n l : ℕ) where
 pub within-range : (n : ℕ) (d : List ℕ) → n * n ≤ firstAbove n d → Demands n d
 unfolding firstAbove
 within-range n d h = record { most = λ p lt. ltb-false 65535 (getD d p 0) (first-before (λ q. ltb 65535 (getD d q 0)) (n * n) p (omega arith)) }
+
+-- ---- and where each is within its range, none is found above it
+pub none-above : (n : ℕ) (d : List ℕ) → ((p : ℕ) → p < n * n → getD d p 0 ≤ 65535) → someCell (n * n) (firstAbove n d) ≡ false
+unfolding firstAbove
+none-above n d most = le-ltb _ _ (le-of-eq (sym (first-none (λ q. ltb 65535 (getD d q 0)) (n * n) (λ q lt. le-ltb 65535 (getD d q 0) (most q lt)))))

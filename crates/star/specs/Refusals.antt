@@ -43,7 +43,24 @@ abbrev pub verdictPlace : Verdict → ℕ
 verdictPlace Accepted = 0
 verdictPlace (Refused r) = refusalPlace r
 
--- The first that fires is given: a check's refusal where it fires, and else what the later checks give.
+-- what is given: a number and a place of the table
+pub record Notice : Type 0 where
+  pub number : ℕ
+  pub place : ℕ
+
+abbrev pub noticeOf : Verdict → Notice
+noticeOf v = record { number = verdictNumber v; place = verdictPlace v }
+
+-- An accepted call reports number 0 and place 0.
+abbrev pub accepted : Notice
+accepted = record { number = 0; place = 0 }
+
+-- The first that fires is given: a check's own number and place where it fires, and else what the later checks give.
+unfoldable pub check : (fires : Bool) (number place : ℕ) → Notice → Notice
+check true number place later = record { number = number; place = place }
+check false number place later = later
+
+-- The same with the refusals by their names: the two say the same where each name has the number and the place that stand there.
 unfoldable pub refuse : Bool → Refusal → Verdict → Verdict
 refuse true r later = Refused r
 refuse false r later = later

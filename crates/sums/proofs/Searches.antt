@@ -66,6 +66,17 @@ module _ (test : ℕ → Bool) where
       or-last true e = refl
       or-last false e = e
 
+-- tests that agree below m find the same
+from-ext : (f g : ℕ → Bool) (left k : ℕ) → ((q : ℕ) → k ≤ q → q < k + left → f q ≡ g q) → firstFrom left k f ≡ firstFrom left k g
+unfolding firstFrom
+from-ext f g zero k same = refl
+from-ext f g (suc left) k same =
+    rw (same k (omega arith) (omega arith), firstFrom) (ap (λ x. elim (g k) [ true ↦ k | false ↦ x ]) (from-ext f g left (suc k) (λ q p r. same q (omega arith) (omega arith))))
+
+pub first-ext : (m : ℕ) (f g : ℕ → Bool) → ((q : ℕ) → q < m → f q ≡ g q) → firstBelow m f ≡ firstBelow m g
+unfolding firstBelow
+first-ext m f g same = from-ext f g m 0 (λ q p r. same q (omega arith))
+
 -- the two tests of a test of both
 pub both-first : (a b : Bool) → (a && b) ≡ true → a ≡ true
 both-first true b e = refl

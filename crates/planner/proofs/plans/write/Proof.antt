@@ -43,7 +43,7 @@ same-length-3 : tie.Need-same-length-3
 same-length-3 c = search needs
 
 returns : tie.Need-returns
-returns c = (written-plan (c .before .before .before .before .before .before .before .before .before .before .before .before .before .before .before .before .before .before .before .before .before .before .pre) _ _ _ (c .before .before .before .before .before .before .before .before .before .before .before .before .before .before .keep .ensures) (c .before .before .before .before .before .before .before .place .ensures .carries) (c .before .before .before .before .before .before .before .place .ensures .beyond) (c .before .before .total2 .ensures) (ap₂ _-_ (c .before .before .before .before .total .ensures) (c .before .before .total2 .ensures)) (c .reconfigurations .ensures), refl)
+returns c = (written-plan (c .before .before .before .before .before .before .before .before .before .before .before .before .before .before .before .before .before .before .before .before .before .before .pre) _ _ _ (c .before .before .before .before .before .before .before .before .before .before .before .before .before .before .keep .ensures) (c .before .before .before .before .before .before .before .place .ensures .carries) (c .before .before .before .before .before .before .before .place .ensures .beyond) (c .before .before .before .before .before .before .before .before .before .before .before .before .before .before .keep .kept .1 .1 .1 .1 .0) (c .before .before .before .before .before .before .before .before .before .before .before .before .before .before .keep .kept .1 .1 .1 .1 .1 .0) (c .before .before .before .before .before .before .before .place .kept .1 .1 .1 .0) (c .before .before .total2 .ensures) (ap₂ _-_ (c .before .before .before .before .total .ensures) (c .before .before .total2 .ensures)) (c .reconfigurations .ensures), refl)
 
 pub write-spec : {M : Type 1} → statement M
 write-spec =

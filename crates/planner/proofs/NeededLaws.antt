@@ -1,0 +1,41 @@
+-- Both rules read a demand, and the least rule a withdrawn matrix, only pair by pair: matrices that agree at each pair are kept alike. Assumes nothing.
+use Prim.Native.Nat.{ℕ, _-_, _*_, _/_, _%_, _<_}
+use native.Mathlib.Omega.{arith}
+use mathlib.Core.Path.{_≡_, refl, sym, _∙_, ap, ap₂}
+use mathlib.Core.List.{List}
+use lib.ListN.{take, replicate}
+use Rattle.sums.specs.Tables.{cell, square}
+use Rattle.sums.proofs.Tables.{tab-ext, place-split, take-cell}
+use Rattle.star.proofs.AlikeLaws.{excess-ext, critical-ext}
+use Rattle.fair.specs.Fair.{fairKept, steps, uncut}
+use Rattle.least.specs.Least.{Withdrawn, Greatest, left, keptCell, keptFrom}
+
+rule-ext : (n : ℕ) (f g : ℕ → ℕ → ℕ) → ((i j : ℕ) → i < n → j < n → f i j ≡ g i j) → square n f ≡ square n g
+unfolding square
+rule-ext n f g same = tab-ext (n * n) _ _ (λ p h. let s = place-split n p h in same (p / n) (p % n) (s .0) (s .1 .0))
+
+-- tables whose first cells are the same agree at each pair
+pub first-cells : (n : ℕ) (x y : List ℕ) → take (n * n) x ≡ take (n * n) y → (i j : ℕ) → i < n → j < n → cell n x i j ≡ cell n y i j
+first-cells n x y e i j hi hj = take-cell n x (take (n * n) y) e i j hi hj ∙ sym (take-cell n y (take (n * n) y) refl i j hi hj)
+
+module _ (n : ℕ) (cap d e : List ℕ) (same : (i j : ℕ) → i < n → j < n → cell n d i j ≡ cell n e i j) where
+  pub fair-ext : fairKept n cap d ≡ fairKept n cap e
+  unfolding fairKept uncut
+  fair-ext = ap (λ v. steps n cap (record { values = v; done = replicate (2 * n) 0 }) (2 * n) .values) (rule-ext n (cell n d) (cell n e) same)
+
+  pub kept-ext : (a b : List ℕ) → ((i j : ℕ) → i < n → j < n → cell n a i j ≡ cell n b i j) → keptFrom n cap d a ≡ keptFrom n cap e b
+  unfolding keptFrom left
+  kept-ext a b withdrawn = ap (λ x. square n (keptCell n cap x)) (rule-ext n _ _ (λ i j hi hj. ap₂ _-_ (same i j hi hj) (withdrawn i j hi hj)))
+
+withdrawn-ext : (n : ℕ) (cap d e a : List ℕ) → ((i j : ℕ) → i < n → j < n → cell n d i j ≡ cell n e i j) → Withdrawn n cap d a → Withdrawn n cap e a
+withdrawn-ext n cap d e a same w = record {
+  off = λ i j hi hj c. w .off i j hi hj (critical-ext n cap d e same i j hi hj ∙ c);
+  below = λ i j hi hj. omega (arith, w .below i j hi hj, same i j hi hj);
+  lines = λ ℓ h. omega (arith, w .lines ℓ h, excess-ext n cap d e same ℓ h);
+}
+
+pub greatest-ext : (n : ℕ) (cap d e a : List ℕ) → ((i j : ℕ) → i < n → j < n → cell n d i j ≡ cell n e i j) → Greatest n cap d a → Greatest n cap e a
+greatest-ext n cap d e a same g = record {
+  withdrawn = withdrawn-ext n cap d e a same (g .withdrawn);
+  most = λ b w. g .most b (withdrawn-ext n cap e d b (λ i j hi hj. sym (same i j hi hj)) w);
+}
