@@ -85,8 +85,8 @@ module _ (n : ℕ) (waiting posted sent dropped : List ℕ) where
       }
 
 -- tables that are long enough pass
-pub tables-fit : {n waiting posted sent dropped : ℕ} → n * n ≤ waiting → n * n ≤ posted → n * n ≤ sent → n * n ≤ dropped → runShort n waiting posted sent dropped ≡ false
-tables-fit a b c d = neither _ _ (neither _ _ (neither _ _ (le-ltb _ _ a) (le-ltb _ _ b)) (le-ltb _ _ c)) (le-ltb _ _ d)
+pub tables-fit : (n : ℕ) {waiting posted sent dropped : ℕ} → n * n ≤ waiting → n * n ≤ posted → n * n ≤ sent → n * n ≤ dropped → runShort n waiting posted sent dropped ≡ false
+tables-fit n a b c d = neither _ _ (neither _ _ (neither _ _ (le-ltb _ _ a) (le-ltb _ _ b)) (le-ltb _ _ c)) (le-ltb _ _ d)
 
 -- ---- 8, 9
 module _ (n limit posts calls : ℕ) (waiting posted sent dropped : List ℕ) where
@@ -129,7 +129,7 @@ alike-books n limit posts w p s d = first-ext (n * n) _ _ (λ q lt. rw (alike-at
 pub fresh-accepts : (n l limit rule waiting posted sent dropped : ℕ) → Ranges n l rule limit → n * n ≤ waiting → n * n ≤ posted → n * n ≤ sent → n * n ≤ dropped →
     Accepted ≡ freshVerdict n l limit rule waiting posted sent dropped
 unfolding freshVerdict
-fresh-accepts n l limit rule waiting posted sent dropped r a b c d = ranges-fit n l rule limit r (passes _ (tables-fit a b c d) refl)
+fresh-accepts n l limit rule waiting posted sent dropped r a b c d = ranges-fit n l rule limit r (passes _ (tables-fit n a b c d) refl)
 
 pub fresh-accepted : (n l limit rule : ℕ) (waiting posted sent dropped : List ℕ) →
     freshVerdict n l limit rule (length waiting) (length posted) (length sent) (length dropped) ≡ Accepted →
@@ -169,7 +169,7 @@ module _ (old : Run) (arrivals waiting posted sent dropped : List ℕ) where
   post-accepts f =
       ranges-fit (old .nodes) (old .slots) (old .rule) (old .limit) (f .ranges)
       (passes _ (le-ltb _ _ (f .given .cells))
-      (passes _ (tables-fit (f .tables .queues .cells) (f .tables .postings .cells) (f .tables .sendings .cells) (f .tables .drops .cells))
+      (passes _ (tables-fit (old .nodes) (f .tables .queues .cells) (f .tables .postings .cells) (f .tables .sendings .cells) (f .tables .drops .cells))
       (order-fits (old .nodes) (old .limit) (old .posts) (old .posts) waiting posted sent dropped (f .order)
       (passes _ (none-above (old .nodes) arrivals (f .within .most)) refl))))
 
@@ -221,7 +221,7 @@ module _ (old : Run) (waiting posted sent dropped : List ℕ) (kept withdrawn sc
   frame-accepts f =
       ranges-fit (old .nodes) (old .slots) (old .rule) (old .limit) (f .ranges)
       (passes _
-      (neither _ _ (tables-fit (f .tables .queues .cells) (f .tables .postings .cells) (f .tables .sendings .cells) (f .tables .drops .cells))
+      (neither _ _ (tables-fit (old .nodes) (f .tables .queues .cells) (f .tables .postings .cells) (f .tables .sendings .cells) (f .tables .drops .cells))
       (neither _ _ (neither _ _ (le-ltb _ _ (f .kept-room)) (le-ltb _ _ (f .withdrawn-room))) (le-ltb _ _ (f .schedule-room))))
       (order-fits (old .nodes) (old .limit) (old .posts) (old .frames) waiting posted sent dropped (f .order) refl))
 
