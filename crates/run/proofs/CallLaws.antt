@@ -54,7 +54,7 @@ held-same {r' = r'} {w = w} {w' = w'} {p = p} {p' = p'} {s = s} {s' = s'} {d = d
 
 -- what is not touched keeps its lengths, and stays alike
 pub lengths-same : {h h' : Held} → h ≡ h' → SameLengths h h'
-lengths-same e = subst (λ k. SameLengths _ k) e (record { waiting = refl; posted = refl; sent = refl; dropped = refl })
+lengths-same {h} e = subst (λ k. SameLengths h k) e (record { waiting = refl; posted = refl; sent = refl; dropped = refl })
 
 pub alike-same : {n : ℕ} {h h' k k' : Held} → h ≡ h' → k ≡ k' → HeldAlike n h k → HeldAlike n h' k'
 alike-same {n} {h' = h'} {k = k} e f a = subst (λ x. HeldAlike n h' x) f (subst (λ x. HeldAlike n x k) e a)
@@ -75,7 +75,7 @@ module _ {n l limit rule : ℕ} {h h' : Held} where
   unfolding cleared
   fresh-lengths (Refused x) c = lengths-same (fresh-unchanged c)
   fresh-lengths Accepted c =
-      let zeros = length-replicate (n * n) 0 in
+      let zeros = length-replicate {A = ℕ} (n * n) 0 in
       let room = fresh-roomy c in
       record {
         waiting = ap length (c .tables .now-waiting) ∙ length-written (n * n) _ (h .waiting) zeros (room .waiting);
@@ -91,7 +91,7 @@ fresh-verdict c d a b = c .tables .answer ∙ rw (both-long (a .waiting) (b .wai
 fresh-alike : {n l limit rule : ℕ} {h h' k k' : Held} → FreshCall n l limit rule h h' Accepted → FreshCall n l limit rule k k' Accepted → HeldAlike n h' k'
 unfolding freshRun cleared
 fresh-alike {n} {h = h} {k = k} c d =
-    let zeros = length-replicate (n * n) 0 in
+    let zeros = length-replicate {A = ℕ} (n * n) 0 in
     record {
       run = c .record' ∙ sym (d .record');
       waiting = rw (c .tables .now-waiting, d .tables .now-waiting) (alike-new (n * n) _ (h .waiting) (k .waiting) zeros);

@@ -172,7 +172,7 @@ module _ (k a q k₁ a₁ q₁ x b t k₂ a₂ q₂ : List ℕ) (h h' g g' : Hel
   frame-needed : (r₁ r₂ : Answer) → verdictOf r₁ ≡ verdictOf r₂ → FrameCall k a q k₁ a₁ q₁ h h' r₁ → FrameCall x b t k₂ a₂ q₂ g g' r₂ →
       (m ≤ length k) × (m ≤ length a) × (h .run .slots * h .run .nodes ≤ length q) → (m ≤ length x) × (m ≤ length b) × (h .run .slots * h .run .nodes ≤ length t) →
       FramesAgreeAsNeeded (h .run .nodes) (h .run .rule) h' g' k₁ a₁ k₂ a₂ r₁ r₂
-  frame-needed (answer.Planned y z u) r₂ verdicts c d = both-needed (answer.Planned y z u) r₂ c d refl (sym verdicts)
+  frame-needed (answer.Planned y z u) r₂ verdicts c d one other = both-needed (answer.Planned y z u) r₂ c d refl (sym verdicts) one other
   frame-needed (answer.Refused y) (answer.Planned z u v) verdicts c d one other = absurd (never verdicts)
   frame-needed (answer.Refused y) (answer.Refused z) verdicts c d one other = record {
     verdicts = verdicts;

@@ -47,8 +47,8 @@ module _ (n : ℕ) (f : ℕ → ℕ) (old : List ℕ) (i j : ℕ) (hi : i < n) (
   zero-cell = written-at (n * n) (replicate (n * n) 0) old (length-replicate (n * n) 0) (i * n + j) (cell-lt n i j hi hj) ∙ getD-replicate (n * n) (i * n + j) 0 0 (cell-lt n i j hi hj)
 
 -- a table that was written by a rule has a cell for each pair
-new-room : {m : ℕ} {f : ℕ → ℕ} {old t : List ℕ} → t ≡ written m (tab m f) old → m ≤ length t
-new-room {m} {f} {old} e = rw e (written-room m (tab m f) old (length-tab f m))
+new-room : (m : ℕ) (f : ℕ → ℕ) (old : List ℕ) {t : List ℕ} → t ≡ written m (tab m f) old → m ≤ length t
+new-room m f old e = rw e (written-room m (tab m f) old (length-tab f m))
 
 -- ---- what holds at a moment
 record Now (n l limit rule : ℕ) (es : List Event) (h : Held) : Type 0 where
@@ -194,10 +194,10 @@ module _ {n l limit rule : ℕ} {es : List Event} {arrivals : List ℕ} {h h' : 
     now-posted = record {
       ranges = now .ranges;
       roomy = record {
-        waiting = new-room (rw (now .nodes) at (c .tables .now-waiting));
-        posted = new-room (rw (now .nodes) at (c .tables .now-posted));
+        waiting = new-room _ _ _ (rw (now .nodes) at (c .tables .now-waiting));
+        posted = new-room _ _ _ (rw (now .nodes) at (c .tables .now-posted));
         sent = rw (c .same-sent) (now .roomy .sent);
-        dropped = new-room (rw (now .nodes) at (c .tables .now-dropped));
+        dropped = new-room _ _ _ (rw (now .nodes) at (c .tables .now-dropped));
       };
       nodes = ap (λ r. r .nodes) (c .record') ∙ now .nodes;
       slots = ap (λ r. r .slots) (c .record') ∙ now .slots;
@@ -243,9 +243,9 @@ module _ {n l limit rule : ℕ} {es : List Event} (lent plan : Lent) {h h' : Hel
     now-framed = record {
       ranges = now .ranges;
       roomy = record {
-        waiting = new-room (rw (now .nodes) at (c .tables .now-waiting refl));
+        waiting = new-room _ _ _ (rw (now .nodes) at (c .tables .now-waiting refl));
         posted = rw (c .same-posted) (now .roomy .posted);
-        sent = new-room (rw (now .nodes) at (c .tables .now-sent refl));
+        sent = new-room _ _ _ (rw (now .nodes) at (c .tables .now-sent refl));
         dropped = rw (c .same-dropped) (now .roomy .dropped);
       };
       nodes = ap (λ r. r .nodes) (c .record') ∙ now .nodes;
