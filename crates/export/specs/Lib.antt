@@ -1,2 +1,3 @@
--- What an exported entry reports.
+-- How the entries for programs in C and Rust report, and what follows from their promises.
 pub mod Reports
+pub mod Theorems

@@ -1,0 +1,20 @@
+-- The order of a report, by computation. Assumes nothing.
+use mathlib.Core.Path.{_≡_, refl}
+use mathlib.Core.List.{[], _∷_}
+use Rattle.star.specs.declared.refusals.Refusal.the-variants.{DemandAbove, BooksDisagree, CallsSpent}
+use Rattle.planner.specs.declared.answers.Answer.the-variants.{Planned, Refused}
+use Rattle.export.specs.Reports.{reportOf}
+
+-- the place, the kept total, the refused total and the reconfigurations
+accepted : reportOf (Planned 7 8 9) ≡ 0 ∷ 7 ∷ 8 ∷ 9 ∷ []
+accepted = refl
+
+-- a refusal's totals and reconfigurations are zero
+above : reportOf (Refused (DemandAbove 3)) ≡ 3 ∷ 0 ∷ 0 ∷ 0 ∷ []
+above = refl
+
+books : reportOf (Refused (BooksDisagree 5)) ≡ 5 ∷ 0 ∷ 0 ∷ 0 ∷ []
+books = refl
+
+spent : reportOf (Refused CallsSpent) ≡ 0 ∷ 0 ∷ 0 ∷ 0 ∷ []
+spent = refl
