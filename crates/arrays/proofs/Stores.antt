@@ -4,10 +4,9 @@ use mathlib.Core.List.{List}
 use Prim.Native.Nat.{ℕ, _+_, _-_, _*_, _≤_, _<_}
 use native.Mathlib.Omega.{arith}
 use native.Mathlib.Nat.{mul-le-mul-right}
-use borrow.Author.Count.{below-more}
 use lib.Arith.{digits-lt}
-use lib.ListN.{length, getD, set, drop}
-use lib.Seq.{getD-set-same, getD-set-other, drop-set-lt, drop-drop}
+use lib.ListN.{length, set, drop}
+use lib.Seq.{drop-set-lt, drop-drop}
 use Rattle.star.specs.Tables.{Square}
 use Rattle.arrays.specs.Arrays.{Frame, Slot}
 

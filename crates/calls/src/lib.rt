@@ -1,6 +1,6 @@
 // What each call of a run answers, on the record's values and the tables: the checks, what the tables hold then (`.._on`), and what the record
 // or its count is then (`fresh_run`, `.._after`).
-pub mod checks;
+mod checks;
 pub mod frame;
 pub mod fresh;
 pub mod post;

@@ -49,7 +49,7 @@ pub record Next (n : ℕ) (cap a b : List ℕ) (m r : ℕ) : Type 0 where
   pub is : (s : Cutting) → Counted n s a b → r ≡ taken n cap s m
 
 -- ---- the invariant of the steps
--- b ≤ L on every line, so that a > 0 on a line above its capacity; no line that has been cut is above its capacity.
+-- b is at most the capacity on every line, so that a > 0 on a line above its capacity; no line that has been cut is above its capacity.
 pub record Sound (n : ℕ) (cap : List ℕ) (s : Cutting) : Type 0 where
   pub cells : length (s .values) ≡ n * n
   pub flags : length (s .done) ≡ 2 * n

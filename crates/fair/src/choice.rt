@@ -1,4 +1,4 @@
-// Which line is cut next: of those above their capacity the one with the smallest fraction (L−b)/a; on a tie, the lowest.
+// Which line is cut next: of those above their capacity the one with the smallest fraction (c−b)/a, c its capacity; on a tie, the lowest.
 ghost use Prim.Native.Nat.{_*_, _<_};
 ghost use Rattle.fair.specs.Cuts.{Comparable, Ahead, Next};
 

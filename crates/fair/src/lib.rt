@@ -1,4 +1,4 @@
-// The fair rule: of the lines above their capacity the one with the smallest fraction (L−b)/a is cut, again and again, until none is left.
+// The fair rule: of the lines above their capacity the one with the smallest fraction (c−b)/a, c its capacity, is cut, again and again, until none is left.
 mod choice;
 mod line;
 mod rule;

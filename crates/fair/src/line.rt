@@ -1,4 +1,4 @@
-// One line is cut: each of its unmodified cells v becomes v×(L−b)/a rounded down.
+// One line is cut: each of its unmodified cells v becomes v×(c−b)/a rounded down, c its capacity.
 use star::lines::crossing;
 use star::lines::on_line;
 use star::lines::put_on_line;

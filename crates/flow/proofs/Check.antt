@@ -9,12 +9,11 @@ use mathlib.Core.List.{List}
 use lib.ListN.{getD}
 use lib.Dec.{leb, eqb}
 use borrow.Author.Tests.{eqb-true, leb-true}
-use Rattle.sums.specs.Searches.{allBelow}
 use Rattle.sums.specs.Tables.{cell}
-use Rattle.sums.proofs.Searches.{both-first, both-second, all-at}
+use Rattle.sums.proofs.Searches.{both-first, both-second, allBelow, all-at}
 use Rattle.star.specs.Lines.{lineSum, total}
-use Rattle.flow.specs.Flows.{Feasible, Largest, cut}
-use Rattle.flow.proofs.Duality.{within-cut}
+use Rattle.flow.specs.Flows.{Feasible}
+use Rattle.flow.proofs.Duality.{Largest, cut, within-cut}
 
 module _ (n : ℕ) (bound limit a : List ℕ) where
   -- the two parts of being feasible, and both

@@ -6,7 +6,7 @@ use native.Mathlib.Omega.{arith}
 use lib.ListN.{getD}
 use Rattle.sums.specs.Sums.{hit}
 use Rattle.sums.specs.Tables.{cell}
-use Rattle.sums.proofs.Sums.{sum-ext, sum-at, sum-bump, hit-same, hit-other}
+use Rattle.sums.proofs.Sums.{sum-ext, sum-bump, hit-same, hit-other}
 use Rattle.sums.proofs.Cases.{by-eq, by-lt}
 use Rattle.sums.proofs.Tables.{place-split}
 use Rattle.star.specs.Lines.{lineSum}

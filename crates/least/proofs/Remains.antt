@@ -12,8 +12,8 @@ use Rattle.sums.specs.Tables.{cell, square, tab}
 use Rattle.sums.proofs.Sums.{sum-ext, sum-add, sum-scale, sum-hit, hit-same, hit-other}
 use Rattle.sums.proofs.Tables.{length-square, square-cell, tab-ext, place-split}
 use Rattle.sums.proofs.Cases.{by-eq, by-lt}
-use Rattle.star.specs.Lines.{onLine, sourceOn, destinationOn, lineSum, total, overflows, excess}
-use Rattle.star.proofs.LineLaws.{source-lt, destination-lt, row-sum, column-sum, total-rows, excess-is, overflows-is}
+use Rattle.star.specs.Lines.{onLine, sourceOn, destinationOn, lineSum, total, excess}
+use Rattle.star.proofs.LineLaws.{source-lt, destination-lt, row-sum, column-sum, total-rows, excess-is}
 use Rattle.flow.specs.Flows.{Feasible}
 use Rattle.least.specs.Least.{Withdrawn, Greatest, left, longer}
 use Rattle.least.specs.Promises.{MeetInZero}

@@ -3,13 +3,11 @@ use mathlib.Core.Path.{_≡_, refl, sym, ap, _∙_}
 use mathlib.Core.Logic.{_⊎_, ⊎-elim, inl, inr}
 use Prim.Native.Nat.{ℕ, zero, suc, _+_, _-_, _*_, _/_, _%_, _^_, _<_, min, max}
 use native.Mathlib.Omega.{arith}
-use native.Mathlib.Nat.{mod-lt, zero-lt-suc, div-div-eq-div-mul, pow-succ'}
+use native.Mathlib.Nat.{mod-lt, zero-lt-suc, pow-succ'}
 use mathlib.Core.Bool.{Bool, true, false, false≢true}
 use mir.Val.{boolByte}
 use lib.Arith.{digits-div, digits-mod}
-use lib.Dec.{eqb}
-use borrow.Author.Tests.{eqb-true, eqb-false}
-use lib.Bits.{bitAnd, bitOr, bitXor, differ, and-step, or-step, xor-step, and-mask, shifted-half, shifted-even}
+use lib.Bits.{bitAnd, bitOr, bitXor, differ, and-step, or-step, xor-step, shifted-half, shifted-even}
 use lib.Pow.{shl-exact, pow-pos}
 use lib.Count.{trailingZeros, under, trailing-le}
 use Rattle.sums.proofs.Cases.{by-eq}

@@ -8,8 +8,8 @@ use native.Mathlib.Nat.{mul-le-mul-left}
 use lib.ListN.{getD}
 use Rattle.sums.specs.Sums.{sumTo, hit}
 use Rattle.sums.specs.Tables.{cell}
-use Rattle.sums.proofs.Sums.{sum-ext, sum-mono, sum-swap, sum-scale, sum-pick, sum-hit, sum-hit-most, sum-tight, sum-all-zero, hit-same, hit-other}
-use Rattle.sums.proofs.Cases.{by-eq, by-lt}
+use Rattle.sums.proofs.Sums.{sum-ext, sum-mono, sum-swap, sum-scale, sum-pick, sum-hit, sum-hit-most, sum-tight, hit-same, hit-other}
+use Rattle.sums.proofs.Cases.{by-eq}
 use Rattle.pairs.specs.Pairs.{allowed, taken, Paired, Full, Stuck}
 
 -- 1 for a positive number

@@ -12,19 +12,17 @@ use Rattle.sums.specs.Tables.{cell, tab, square}
 use Rattle.sums.proofs.Cases.{by-eq}
 use Rattle.sums.proofs.Sums.{sum-ext, sum-add}
 use Rattle.sums.proofs.Tables.{take-cell}
-use Rattle.star.specs.declared.refusals.Refusal.{Refusal}
 use Rattle.star.specs.declared.refusals.Verdict.the-variants as verdict
 use Rattle.star.specs.Tables.{Alike}
-use Rattle.star.specs.Checks.{Sizes}
 use Rattle.star.specs.Lines.{total, wholeFrame, lineSum, onLine, sourceOn, destinationOn, Admissible}
-use Rattle.star.specs.Schedules.{ConflictFree, Carries, count, refusedBy}
-use Rattle.star.proofs.RefusalLaws.{passes, never, passed, neither, sizes-fit, none-above}
+use Rattle.star.specs.Schedules.{ConflictFree, count, refusedBy}
+use Rattle.star.proofs.RefusalLaws.{Sizes, passes, never, passed, neither, sizes-fit, none-above}
 use Rattle.star.proofs.AlikeLaws.{alike-cell, alike-above, both-long}
 use Rattle.star.proofs.LineLaws.{line-ext, total-ext}
 use Rattle.fair.specs.Fair.{fairKept, steps, step, uncut, taken, smaller, exceeds, numerator, modifiedSum, unmodifiedSum, modified, cutLine, cutCell}
-use Rattle.fair.proofs.Steps.{fair-admissible, fair-below}
+use Rattle.fair.proofs.Steps.{fair-admissible}
 use Rattle.least.specs.Least.{Greatest, keptFrom}
-use Rattle.least.proofs.Keeping.{kept-below, kept-admissible, refused-total}
+use Rattle.least.proofs.Keeping.{kept-admissible, refused-total}
 use Rattle.least.proofs.LeastIsLeast.{least-is-least-whole}
 use Rattle.planner.specs.declared.answers.Answer.{Answer}
 use Rattle.planner.specs.declared.answers.Answer.the-variants.{Planned, Refused}

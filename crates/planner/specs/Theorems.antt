@@ -11,7 +11,7 @@ use Rattle.star.specs.Tables.{Alike}
 use Rattle.star.specs.Lines.{total, wholeFrame, excess, Admissible}
 use Rattle.star.specs.Schedules.{ConflictFree, refusedBy}
 use Rattle.planner.specs.declared.answers.Answer.{Answer}
-use Rattle.planner.specs.declared.answers.Answer.the-variants.{Planned, Refused}
+use Rattle.planner.specs.declared.answers.Answer.the-variants.{Refused}
 use Rattle.planner.specs.Plans.{verdictOf, keptTotal, refusedTotal, planVerdict, PlanResult}
 
 -- Every accepted plan, under both rules: kept is admissible and at most the demand at each pair, and its schedule refuses, as source document

@@ -2,7 +2,6 @@
 use star::lines::line_sum;
 use star::tables::clear;
 ghost use mathlib.Core.Path.{_≡_};
-ghost use Prim.Native.Nat.{_≤_};
 ghost use Rattle.star.specs.Tables.{Square, Demands};
 ghost use Rattle.star.specs.Lines.{total};
 ghost use Rattle.planner.specs.Kept.{KeepRoom, Kept};

@@ -1,5 +1,5 @@
 // The entry `plan`: what each pair keeps of its demand, and how the frame carries it.
 pub mod answers;
 pub mod checks;
-pub mod kept;
+mod kept;
 pub mod plans;

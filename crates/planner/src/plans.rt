@@ -12,7 +12,7 @@ ghost use Rattle.star.specs.Lines.{wholeFrame};
 ghost use Rattle.planner.specs.Plans.{verdictOf, PlanRoom, Wrote, PlanResult};
 
 // The work of a plan, once all checks have passed: keeps by the rule, places what is kept, and reports the totals and the reconfigurations.
-pub fn write(
+fn write(
     n: usize,
     l: usize,
     rule: u32,

@@ -1,35 +1,24 @@
 -- The theorems on fresh and post. The verdict is a function of what was given, and what is held then is one of the verdict and of what was held; each
 -- reads only the cells needed. Assumes nothing.
-use Prim.Native.Nat.{ℕ, _+_, _-_, _*_, _≤_, _<_, min}
-use native.Mathlib.Omega.{arith}
+use Prim.Native.Nat.{ℕ, _-_, _*_, _≤_, _<_}
 use mathlib.Core.Path.{_≡_, refl, sym, _∙_, ap, subst}
 use mathlib.Core.List.{List}
-use lib.ListN.{length, getD, take, drop, replicate, length-replicate, length-append, length-drop}
-use lib.Seq.{getD-take}
+use lib.ListN.{length, length-replicate}
 use Rattle.sums.specs.Tables.{tab, written}
-use Rattle.sums.proofs.Tables.{length-tab, tab-ext, written-first}
+use Rattle.sums.proofs.Tables.{length-tab, tab-ext, written-first, written-room, written-length}
 use Rattle.star.specs.declared.refusals.Refusal.{Refusal}
 use Rattle.star.specs.declared.refusals.Verdict.{Verdict}
 use Rattle.star.specs.declared.refusals.Verdict.the-variants.{Accepted, Refused}
-use Rattle.star.specs.Tables.{Square, Alike}
+use Rattle.star.specs.Tables.{Alike}
 use Rattle.star.proofs.AlikeLaws.{alike-at, both-long}
 use Rattle.books.specs.Rooms.{Tables}
 use Rattle.calls.specs.declared.record.Run.{Run}
-use Rattle.calls.specs.Checks.{Ranges}
 use Rattle.calls.specs.Runs.{freshVerdict, freshRun, cleared, postVerdict, postRun, postPosted, postDropped, postWaiting}
 use Rattle.calls.proofs.Verdicts.{InOrder, fresh-accepts, fresh-accepted, post-accepts, post-accepted, alike-posts}
 use Rattle.run.specs.Held.{Held, Roomy, FreshCall, PostCall}
-use Rattle.run.specs.Theorems.{Settled, Ready, HeldAlike, SameLengths, FreshTheorems, PostTheorems}
+use Rattle.run.specs.Theorems.{Ready, HeldAlike, SameLengths, FreshTheorems, PostTheorems}
 
 -- ---- a table that was written anew
-length-written : (m : ℕ) (new old : List ℕ) → length new ≡ m → m ≤ length old → length (written m new old) ≡ length old
-unfolding written
-length-written m new old fits room = omega (arith, length-append new (drop m old), length-drop m old)
-
-pub written-room : (m : ℕ) (new old : List ℕ) → length new ≡ m → m ≤ length (written m new old)
-unfolding written
-written-room m new old fits = omega (arith, length-append new (drop m old))
-
 -- two tables written with the same are alike
 pub alike-new : (m : ℕ) (new x y : List ℕ) → length new ≡ m → Alike m (written m new x) (written m new y)
 alike-new m new x y fits = record {
@@ -42,7 +31,7 @@ pub alike-by : (m : ℕ) (f g : ℕ → ℕ) (x y : List ℕ) → ((p : ℕ) →
 alike-by m f g x y same = rw (tab-ext m f g same) (alike-new m (tab m g) x y (length-tab g m))
 
 pub longer-by : (m : ℕ) (f : ℕ → ℕ) (old : List ℕ) → m ≤ length old → length (written m (tab m f) old) ≡ length old
-longer-by m f old room = length-written m (tab m f) old (length-tab f m) room
+longer-by m f old room = written-length m (tab m f) old (length-tab f m) room
 
 -- ---- what is held, as one thing
 abbrev pub held : (run : Run) (waiting posted sent dropped : List ℕ) → Held
@@ -78,10 +67,10 @@ module _ {n l limit rule : ℕ} {h h' : Held} where
       let zeros = length-replicate {A = ℕ} (n * n) 0 in
       let room = fresh-roomy c in
       record {
-        waiting = ap length (c .tables .now-waiting) ∙ length-written (n * n) _ (h .waiting) zeros (room .waiting);
-        posted = ap length (c .tables .now-posted) ∙ length-written (n * n) _ (h .posted) zeros (room .posted);
-        sent = ap length (c .tables .now-sent) ∙ length-written (n * n) _ (h .sent) zeros (room .sent);
-        dropped = ap length (c .tables .now-dropped) ∙ length-written (n * n) _ (h .dropped) zeros (room .dropped);
+        waiting = ap length (c .tables .now-waiting) ∙ written-length (n * n) _ (h .waiting) zeros (room .waiting);
+        posted = ap length (c .tables .now-posted) ∙ written-length (n * n) _ (h .posted) zeros (room .posted);
+        sent = ap length (c .tables .now-sent) ∙ written-length (n * n) _ (h .sent) zeros (room .sent);
+        dropped = ap length (c .tables .now-dropped) ∙ written-length (n * n) _ (h .dropped) zeros (room .dropped);
       }
 
 fresh-verdict : {n l limit rule : ℕ} {h h' k k' : Held} {v₁ v₂ : Verdict} → FreshCall n l limit rule h h' v₁ → FreshCall n l limit rule k k' v₂ → Roomy n h → Roomy n k → v₁ ≡ v₂

@@ -5,13 +5,12 @@ use native.Mathlib.Omega.{arith}
 use mathlib.Core.Path.{_≡_, refl, sym, _∙_, ap}
 use mathlib.Core.List.{List}
 use lib.ListN.{length, getD, take}
-use lib.Seq.{getD-take}
 use Rattle.sums.specs.Tables.{tab, written}
 use Rattle.star.specs.declared.refusals.Refusal.{Refusal}
 use Rattle.star.specs.declared.refusals.Verdict.the-variants.{Accepted}
 use Rattle.star.specs.Refusals.{noticeOf}
 use Rattle.star.proofs.RefusalLaws.{never}
-use Rattle.star.proofs.AlikeLaws.{alike-at}
+use Rattle.star.proofs.AlikeLaws.{first-at, alike-at}
 use Rattle.planner.specs.declared.answers.Answer.{Answer}
 use Rattle.planner.specs.declared.answers.Answer.the-variants as answer
 use Rattle.planner.specs.Plans.{verdictOf, PlanResult}
@@ -128,14 +127,11 @@ module _ (k a q k₁ a₁ q₁ x b t k₂ a₂ q₂ : List ℕ) (h h' g g' : Hel
     held-then : take m k₁ ≡ take m k₂ → HeldAlike (h .run .nodes) h' g'
     held-then e = record {
       run = c .record' ∙ ap (frameRun (h .run)) (ok₁ ∙ sym ok₂) ∙ ap (λ r. frameRun r (verdictOf r₂)) (same .run) ∙ sym (d .record');
-      waiting = rw (c .tables .now-waiting ok₁, d .tables .now-waiting ok₂, sym (same .run)) (alike-by m _ _ (h .waiting) (g .waiting) (λ p lt. rw (alike-at (same .waiting) p lt, kept-at p lt) refl));
+      waiting = rw (c .tables .now-waiting ok₁, d .tables .now-waiting ok₂, sym (same .run)) (alike-by m _ _ (h .waiting) (g .waiting) (λ p lt. rw (alike-at (same .waiting) p lt, first-at m k₁ k₂ e p lt) refl));
       posted = rw (c .same-posted, d .same-posted) (same .posted);
-      sent = rw (c .tables .now-sent ok₁, d .tables .now-sent ok₂, sym (same .run)) (alike-by m _ _ (h .sent) (g .sent) (λ p lt. rw (alike-at (same .sent) p lt, kept-at p lt) refl));
+      sent = rw (c .tables .now-sent ok₁, d .tables .now-sent ok₂, sym (same .run)) (alike-by m _ _ (h .sent) (g .sent) (λ p lt. rw (alike-at (same .sent) p lt, first-at m k₁ k₂ e p lt) refl));
       dropped = rw (c .same-dropped, d .same-dropped) (same .dropped);
     }
-      where
-        kept-at : (p : ℕ) → p < m → getD k₁ p 0 ≡ getD k₂ p 0
-        kept-at p lt = sym (getD-take m k₁ p 0 lt) ∙ ap (λ y. getD y p 0) e ∙ getD-take m k₂ p 0 lt
 
     -- each is a plan of what waits
     plans-alike : (m ≤ length k) × (m ≤ length a) × (h .run .slots * h .run .nodes ≤ length q) → (m ≤ length x) × (m ≤ length b) × (h .run .slots * h .run .nodes ≤ length t) →

@@ -12,7 +12,7 @@ use mathlib.Core.List.{List, [], _∷_, _++_}
 use lib.ListN.{length, getD, replicate, length-replicate, getD-replicate}
 use borrow.Author.Tests.{le-ltb}
 use Rattle.sums.specs.Tables.{cell, tab, written}
-use Rattle.sums.proofs.Tables.{cell-lt, place-split, at-place, length-tab, tab-at, written-at}
+use Rattle.sums.proofs.Tables.{cell-lt, place-split, at-place, length-tab, tab-at, written-at, written-room}
 use Rattle.star.specs.declared.refusals.Refusal.{Refusal}
 use Rattle.star.specs.declared.refusals.Refusal.the-variants.{BooksDisagree}
 use Rattle.star.specs.declared.refusals.Verdict.{Verdict}
@@ -33,7 +33,7 @@ use Rattle.run.specs.Histories.{Lent, Event, posting, framing, restartin
 use Rattle.calls.proofs.Verdicts.{fresh-accepted, post-accepted, frame-accepted}
 use Rattle.planner.proofs.PlanLaws.{plan-below}
 use Rattle.run.proofs.SentLaws.{plan-most, met-ext}
-use Rattle.run.proofs.CallLaws.{written-room, fresh-unchanged, post-unchanged}
+use Rattle.run.proofs.CallLaws.{fresh-unchanged, post-unchanged}
 use Rattle.run.proofs.FrameLaws.{frame-unchanged}
 
 -- ---- a pair of a table that was written by a rule

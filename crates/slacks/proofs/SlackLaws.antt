@@ -11,9 +11,8 @@ use Rattle.star.specs.declared.refusals.Verdict.{Verdict}
 use Rattle.star.specs.declared.refusals.Verdict.the-variants.{Accepted, Refused}
 use Rattle.star.specs.Tables.{Square, Demands}
 use Rattle.star.specs.Refusals.{noticeOf}
-use Rattle.star.specs.Checks.{Sizes}
 use Rattle.star.specs.Lines.{slack, wholeFrame}
-use Rattle.star.proofs.RefusalLaws.{in-numbers, passed, in-sizes, within-range}
+use Rattle.star.proofs.RefusalLaws.{Sizes, in-numbers, passed, in-sizes, within-range}
 use Rattle.slacks.specs.Slacks.{slacksVerdict, slacksNotice, slacksAfter, SlacksResult}
 
 -- what an accepted call has passed

@@ -1,18 +1,15 @@
 -- The theorems on slacks: the verdict is a function of the input, and the table one of verdict and input; both read only the cells needed. Assumes nothing.
 use Prim.Native.Nat.{ℕ, _*_, _≤_, _<_}
-use native.Mathlib.Omega.{arith}
 use mathlib.Core.Path.{_≡_, refl, sym, _∙_, ap}
 use mathlib.Core.List.{List}
 use lib.IntN.{ℤ}
-use lib.ListN.{length, getD, take, drop, length-append, length-drop}
-use lib.Seq.{take-at}
+use lib.ListN.{length, getD, take}
 use borrow.Author.Tests.{le-ltb}
-use Rattle.sums.specs.Tables.{tab, written}
-use Rattle.sums.proofs.Tables.{length-tab, tab-ext}
+use Rattle.sums.proofs.Tables.{length-tab, tab-ext, written-first, written-length}
 use Rattle.star.specs.declared.refusals.Verdict.{Verdict}
 use Rattle.star.specs.declared.refusals.Verdict.the-variants.{Accepted, Refused}
 use Rattle.star.specs.Tables.{Alike}
-use Rattle.star.specs.Lines.{slack, wholeFrame}
+use Rattle.star.specs.Lines.{wholeFrame}
 use Rattle.star.proofs.RefusalLaws.{passes, sizes-fit, none-above}
 use Rattle.star.proofs.AlikeLaws.{alike-cell, alike-above, both-long, slack-ext}
 use Rattle.slacks.specs.Slacks.{slacksVerdict, slacksAfter, SlacksResult}
@@ -26,22 +23,9 @@ plainly n l d room a b c e cells lines most =
     sizes-fit n l (record { some-nodes = a; nodes = b; some-slots = c; slots = e })
     (passes _ (le-ltb _ _ cells) (passes _ (le-ltb _ _ lines) (passes _ (none-above n d most) refl)))
 
--- the slacks written
-module _ (n l : ℕ) (d : List ℕ) (table : List ℤ) where
-  abbrev lines : List ℤ
-  lines = tab (2 * n) (slack n (wholeFrame n l) d)
-
-  first-lines : take (2 * n) (written (2 * n) lines table) ≡ lines
-  unfolding written
-  first-lines = take-at lines (drop (2 * n) table) (2 * n) (length-tab (slack n (wholeFrame n l) d) (2 * n))
-
-  length-lines : 2 * n ≤ length table → length (written (2 * n) lines table) ≡ length table
-  unfolding written
-  length-lines room = omega (arith, length-append lines (drop (2 * n) table), length-tab (slack n (wholeFrame n l) d) (2 * n), length-drop (2 * n) table)
-
 same-length : (n l : ℕ) (d : List ℕ) (table table' : List ℤ) (v : Verdict) → SlacksResult n l d table table' v → length table' ≡ length table
 unfolding slacksAfter
-same-length n l d table table' Accepted x = ap length (x .after) ∙ length-lines n l d table (slacks-fits n l d table (x .answer) refl .lines)
+same-length n l d table table' Accepted x = ap length (x .after) ∙ written-length (2 * n) _ table (length-tab _ (2 * n)) (slacks-fits n l d table (x .answer) refl .lines)
 same-length n l d table table' (Refused r) x = ap length (x .after)
 
 module _ (n l : ℕ) (d e : List ℕ) (room₁ room₂ : ℕ) (same : Alike (n * n) d e) (fits₁ : 2 * n ≤ room₁) (fits₂ : 2 * n ≤ room₂) where
@@ -54,9 +38,9 @@ alike-table : (n l : ℕ) (d e : List ℕ) (table₁ table₁' table₂ table₂
 unfolding slacksAfter
 alike-table n l d e table₁ table₁' table₂ table₂' v₁ v₂ x y same ok₁ ok₂ =
     ap (take (2 * n)) (x .after ∙ ap (λ v. slacksAfter v n l d table₁) ok₁)
-    ∙ first-lines n l d table₁
+    ∙ written-first (2 * n) _ table₁ (length-tab _ (2 * n))
     ∙ tab-ext (2 * n) _ _ (λ ℓ h. slack-ext n (wholeFrame n l) d e (alike-cell n same) ℓ h)
-    ∙ sym (first-lines n l e table₂)
+    ∙ sym (written-first (2 * n) _ table₂ (length-tab _ (2 * n)))
     ∙ sym (ap (take (2 * n)) (y .after ∙ ap (λ v. slacksAfter v n l e table₂) ok₂))
 
 pub slacks-theorems : SlacksTheorems

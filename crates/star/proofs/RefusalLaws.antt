@@ -3,7 +3,7 @@
 use Prim.Native.Nat.{ℕ, _*_, _≤_, _<_}
 use native.Mathlib.Nat.{le-of-eq}
 use native.Mathlib.Omega.{arith}
-use mathlib.Core.Path.{_≡_, refl, sym, _∙_, ap}
+use mathlib.Core.Path.{_≡_, refl, sym, _∙_}
 use mathlib.Core.Bool.{Bool, true, false, _||_}
 use mathlib.Core.List.{List}
 use lib.ListN.{getD}
@@ -16,7 +16,7 @@ use Rattle.star.specs.declared.refusals.Verdict.{Verdict}
 use Rattle.star.specs.declared.refusals.Verdict.the-variants.{Accepted, Refused}
 use Rattle.star.specs.Tables.{Demands}
 use Rattle.star.specs.Refusals.{Notice, noticeOf, check, refusalNumber, refusalPlace, refuse, outside, nodesOut, slotsOut, someCell, firstAbove}
-use Rattle.star.specs.Checks.{sizesVerdict, Sizes}
+use Rattle.star.specs.Checks.{sizesVerdict}
 
 pub fires : {b : Bool} {r : Refusal} (later : Verdict) → b ≡ true → Refused r ≡ refuse b r later
 unfolding refuse
@@ -79,6 +79,13 @@ pub inside : (low high x : ℕ) → low ≤ x → x ≤ high → outside low hig
 inside low high x p q = neither _ _ (le-ltb x low p) (le-ltb high x q)
 
 -- ---- 1, 2
+-- N and L within their ranges
+pub record Sizes (n l : ℕ) : Type 0 where
+  pub some-nodes : 1 ≤ n
+  pub nodes : n ≤ 64
+  pub some-slots : 1 ≤ l
+  pub slots : l ≤ 1024
+
 module _ (n l : ℕ) where
   -- numbers in their ranges pass
   pub sizes-fit : {v later : Verdict} → Sizes n l → v ≡ later → v ≡ refuse (nodesOut n) Nodes (refuse (slotsOut l) Slots later)

@@ -5,7 +5,7 @@ use native.Mathlib.Omega.{arith}
 use mathlib.Core.Path.{_≡_, refl, _∙_, ap}
 use mathlib.Core.Bool.{Bool, true, false, cond}
 use lib.Dec.{ltb}
-use lib.IntN.{ℤ, pos, negsuc, subℕ, negℤ, _-ℤ_, +ℤ-idl}
+use lib.IntN.{ℤ, pos, negsuc, subℕ, _-ℤ_, +ℤ-idl}
 use lib.Signed.{mag, ltZ}
 use mir.Syntax.{w32}
 use mir.Val.{toZ, ofZ, SFits}

@@ -1,5 +1,5 @@
 -- The checks that every entry makes first.
-use Prim.Native.Nat.{ℕ, _≤_}
+use Prim.Native.Nat.{ℕ}
 use Rattle.star.specs.declared.refusals.Refusal.the-variants.{Nodes, Slots}
 use Rattle.star.specs.declared.refusals.Verdict.{Verdict}
 use Rattle.star.specs.declared.refusals.Verdict.the-variants.{Accepted}
@@ -11,10 +11,3 @@ sizesVerdict n l =
     refuse (nodesOut n) Nodes
     (refuse (slotsOut l) Slots
     Accepted)
-
--- N and L within their ranges
-pub record Sizes (n l : ℕ) : Type 0 where
-  pub some-nodes : 1 ≤ n
-  pub nodes : n ≤ 64
-  pub some-slots : 1 ≤ l
-  pub slots : l ≤ 1024

@@ -1,5 +1,5 @@
 -- Lines and slack. `n` is N, `cap` a table with the capacity of each of the 2N lines in line order, `d` a matrix of n * n cells.
-use Prim.Native.Nat.{ℕ, zero, suc, _+_, _-_, _*_, _≤_, _<_}
+use Prim.Native.Nat.{ℕ, suc, _+_, _-_, _*_, _≤_, _<_}
 use mathlib.Core.Bool.{Bool, true, false, cond, _&&_}
 use mathlib.Core.List.{List}
 use lib.ListN.{getD, replicate}

@@ -1,6 +1,6 @@
 -- What is refused: each refusal's number and place, and when it fires.
 use Prim.Native.Nat.{ℕ, _*_}
-use mathlib.Core.Bool.{Bool, true, false, _||_, not}
+use mathlib.Core.Bool.{Bool, true, false, _||_}
 use mathlib.Core.List.{List}
 use lib.ListN.{getD}
 use lib.Dec.{ltb, leb}

@@ -1,10 +1,9 @@
 -- Schedules of l slots over n nodes: bytes, slot k, destination j at k×N+j, holding the source, or 255 for idle.
-use Prim.Native.Nat.{ℕ, suc, _+_, _-_, _*_, _≤_, _<_}
+use Prim.Native.Nat.{ℕ, suc, _-_, _<_}
 use mathlib.Core.Path.{_≡_}
 use mathlib.Core.Logic.{_⊎_}
 use mathlib.Core.Bool.{Bool, not}
 use mathlib.Core.List.{List}
-use lib.ListN.{getD}
 use lib.Dec.{eqb}
 use Rattle.sums.specs.Sums.{sumTo, bit, hit}
 use Rattle.sums.specs.Searches.{someBelow}

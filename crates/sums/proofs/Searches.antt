@@ -5,7 +5,7 @@ use native.Mathlib.Omega.{arith}
 use native.Mathlib.Nat.{zero-add}
 use mathlib.Core.Path.{_≡_, refl, sym, _∙_, ap}
 use mathlib.Core.Bool.{Bool, true, false, _||_, _&&_}
-use Rattle.sums.specs.Searches.{firstFrom, firstBelow, someBelow, allBelow}
+use Rattle.sums.specs.Searches.{firstFrom, firstBelow, someBelow}
 use Rattle.sums.proofs.Cases.{by-eq}
 
 module _ (test : ℕ → Bool) where
@@ -87,6 +87,11 @@ both-second true b e = e
 both-second false b e = cc
 
 -- a test that holds at each number below n holds at this one
+-- whether the test holds at each number below m
+unfoldable pub allBelow : ℕ → (ℕ → Bool) → Bool
+allBelow zero test = true
+allBelow (suc m) test = test m && allBelow m test
+
 pub all-at : (n : ℕ) (test : ℕ → Bool) → allBelow n test ≡ true → (i : ℕ) → i < n → test i ≡ true
 unfolding allBelow
 all-at zero test e i h = absurd (omega arith)

@@ -7,7 +7,7 @@ use mathlib.Core.Path.{_≡_, refl, sym, _∙_, ap}
 use mathlib.Core.Logic.{_⊎_, inl, inr}
 use mathlib.Core.List.{List, [], _∷_, _++_, append-assoc}
 use lib.Arith.{digits-lt, digits-div, digits-mod}
-use lib.ListN.{length, getD, take, drop, set, replicate, length-append, List·getD-append}
+use lib.ListN.{length, getD, take, drop, set, replicate, length-append, length-drop, List·getD-append}
 use lib.Seq.{drop-cons, set-at, ext-getD, getD-set-same, getD-set-other, getD-append-seam, getD-take, drop-at, take-at}
 use Rattle.sums.specs.Tables.{cell, tab, square, written}
 use Rattle.sums.proofs.Cases.{by-eq}
@@ -117,11 +117,11 @@ module _ (n : ℕ) (t : List ℕ) (a j x : ℕ) (hj : j < n) where
   set-else k v hv ne = by-eq k a (λ e. set-col k v hv (ne e)) (set-row k v hv)
 
 -- ---- a lent table
-module _ (m : ℕ) (new old : List ℕ) (fits : length new ≡ m) where
-  pub written-at : (p : ℕ) → p < m → getD (written m new old) p 0 ≡ getD new p 0
-  unfolding written
-  written-at p h = List·getD-append new (drop m old) 0 p (omega arith)
+pub written-at : (m : ℕ) (new old : List ℕ) → length new ≡ m → (p : ℕ) → p < m → getD (written m new old) p 0 ≡ getD new p 0
+unfolding written
+written-at m new old fits p h = List·getD-append new (drop m old) 0 p (omega arith)
 
+module _ {A : Type 0} (m : ℕ) (new old : List A) (fits : length new ≡ m) where
   pub written-rest : drop m (written m new old) ≡ drop m old
   unfolding written
   written-rest = drop-at new (drop m old) m fits
@@ -129,6 +129,15 @@ module _ (m : ℕ) (new old : List ℕ) (fits : length new ≡ m) where
   pub written-first : take m (written m new old) ≡ new
   unfolding written
   written-first = take-at new (drop m old) m fits
+
+  pub written-room : m ≤ length (written m new old)
+  unfolding written
+  written-room = omega (arith, length-append new (drop m old))
+
+  -- a table that had room for the new cells is as long as before
+  pub written-length : m ≤ length old → length (written m new old) ≡ length old
+  unfolding written
+  written-length room = omega (arith, length-append new (drop m old), length-drop m old)
 
 pub written-cell : (n : ℕ) (new old : List ℕ) → length new ≡ n * n → (i j : ℕ) → i < n → j < n → cell n (written (n * n) new old) i j ≡ cell n new i j
 unfolding cell

@@ -1,6 +1,6 @@
 -- Searches over a range, by a test.
 use Prim.Native.Nat.{ℕ, zero, suc}
-use mathlib.Core.Bool.{Bool, true, false, _||_, _&&_}
+use mathlib.Core.Bool.{Bool, true, false, _||_}
 
 -- the first of k, .., k + left - 1 at which the test holds, or k + left
 unfoldable pub firstFrom : ℕ → ℕ → (ℕ → Bool) → ℕ
@@ -15,8 +15,3 @@ firstBelow m test = firstFrom m 0 test
 unfoldable pub someBelow : ℕ → (ℕ → Bool) → Bool
 someBelow zero test = false
 someBelow (suc m) test = someBelow m test || test m
-
--- whether the test holds at each number below m
-unfoldable pub allBelow : ℕ → (ℕ → Bool) → Bool
-allBelow zero test = true
-allBelow (suc m) test = test m && allBelow m test
