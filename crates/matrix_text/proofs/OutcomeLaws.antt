@@ -38,7 +38,7 @@ or-true false = refl
 taken : {b : Bool} (x y : Outcome) → b ≡ true → orElse b x y ≡ x
 taken x y e = rw e refl
 
-left : {b : Bool} (x : Outcome) {y z : Outcome} → b ≡ false → y ≡ z → orElse b x y ≡ z
+pub left : {b : Bool} (x : Outcome) {y z : Outcome} → b ≡ false → y ≡ z → orElse b x y ≡ z
 left x e h = rw e h
 
 -- ---- answers
