@@ -87,7 +87,7 @@ pub one-digit-more : (n : ℕ) → 10 ≤ n → length (decimal n) ≡ length (d
 one-digit-more n high = rw (decimal-more n high) (length-append (decimal (n / 10)) ((48 + n % 10) ∷ []))
 
 -- a number below 10 ^ k has at most k digits
-pub decimal-length : (k n : ℕ) → n < 10 ^ suc k → length (decimal n) ≤ suc k
+decimal-length : (k n : ℕ) → n < 10 ^ suc k → length (decimal n) ≤ suc k
 decimal-length zero n h = omega (arith, one-digit n (omega (arith, pow-suc 10 0)))
 decimal-length (suc k) n h =
     by-lt n 10
@@ -114,7 +114,7 @@ module _ (f : ℕ → List ℕ) where
       (λ high. let e : m ≡ n = omega arith in rw e (omega (arith, length-append (joinTo n f) (f n))))
 
   -- pieces of at most c bytes each
-  pub join-most : (n c : ℕ) → ((k : ℕ) → k < n → length (f k) ≤ c) → length (joinTo n f) ≤ n * c
+  join-most : (n c : ℕ) → ((k : ℕ) → k < n → length (f k) ≤ c) → length (joinTo n f) ≤ n * c
   unfolding joinTo
   join-most zero c most = omega arith
   join-most (suc n) c most = omega (arith, length-append (joinTo n f) (f n), join-most n c (λ k h. most k (omega arith)), most n (omega arith))

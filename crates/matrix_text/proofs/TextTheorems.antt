@@ -1,20 +1,21 @@
 -- The theorems on the matrix program's text. A text is made of an outcome, which is one for each input, and of the kept cells of a plan: under the
 -- fair rule these are one matrix, under the least rule they have one total, since greatest matrices have. Assumes nothing.
-use Prim.Native.Nat.{ℕ, zero, suc, _-_, _*_, _≤_, _<_}
+use Prim.Native.Nat.{ℕ, zero, suc, _+_, _-_, _*_, _≤_, _<_}
 use native.Mathlib.Omega.{arith}
 use mathlib.Core.Path.{_≡_, refl, sym, _∙_, ap, ap₂}
 use mathlib.Core.Bool.{Bool, true, false}
 use mathlib.Core.List.{List, [], _∷_, _++_}
 use mathlib.Core.Option.{Option, none, some}
 use lib.Dec.{ltb, eqb}
-use lib.ListN.{length, getD, take}
+use lib.ListN.{length, getD, take, drop}
+use lib.Seq.{drop-drop, drop-append-add}
 use borrow.Author.Tests.{ltb-false, le-ltb, eqb-true, eq-eqb}
 use Rattle.sums.specs.Tables.{cell, written}
 use Rattle.sums.proofs.Searches.{first-none}
 use Rattle.sums.proofs.Tables.{take-cell}
 use Rattle.star.specs.declared.refusals.Refusal.{Refusal}
 use Rattle.star.specs.declared.refusals.Refusal.the-variants.{Nodes, Slots, Rule, DemandAbove}
-use Rattle.star.specs.Refusals.{outside, nodesOut, slotsOut, ruleOut, someCell, firstAbove}
+use Rattle.star.specs.Refusals.{outside, firstAbove}
 use Rattle.star.specs.Lines.{total, wholeFrame}
 use Rattle.star.proofs.LineLaws.{total-ext}
 use Rattle.star.proofs.RefusalLaws.{neither, in-its-range, within-range}
@@ -24,7 +25,7 @@ use Rattle.planner.specs.Plans.{Plan}
 use Rattle.number_list.specs.Input.{listOf}
 use Rattle.matrix_text.specs.Text.{decimal, joinTo, headText, totalsText, markAfter, cellText, rowText, rowsText, planText}
 use Rattle.matrix_text.specs.Outcomes.{Outcome, BadInput, Refuses, Plans, orElse, judge, judgeList, outcome, outcomeText, Prints, Answered}
-use Rattle.matrix_text.specs.Theorems.{Same, LeastText, SameButRows, Agree, InOrder, TextTheorems}
+use Rattle.matrix_text.specs.Theorems.{Same, LeastText, Agree, InOrder, TextTheorems}
 use Rattle.matrix_text.proofs.OutcomeLaws.{left}
 
 -- ---- kept matrices with the same cells print the same text
@@ -47,8 +48,8 @@ first-cells : (n : ℕ) (k₁ k₂ : List ℕ) → take (n * n) k₁ ≡ take (n
 first-cells n k₁ k₂ e i j hi hj = take-cell n k₁ (take (n * n) k₂) e i j hi hj ∙ sym (take-cell n k₂ (take (n * n) k₂) refl i j hi hj)
 
 -- ---- under the least rule kept has one total
-one-total : (n l : ℕ) (d k₁ a₁ s₁ k₂ a₂ s₂ : List ℕ) → Plan n l 1 (wholeFrame n l) d k₁ a₁ s₁ → Plan n l 1 (wholeFrame n l) d k₂ a₂ s₂ → total n k₁ ≡ total n k₂
-one-total n l d k₁ a₁ s₁ k₂ a₂ s₂ p q =
+one-total : {n l : ℕ} {d k₁ a₁ s₁ k₂ a₂ s₂ : List ℕ} → Plan n l 1 (wholeFrame n l) d k₁ a₁ s₁ → Plan n l 1 (wholeFrame n l) d k₂ a₂ s₂ → total n k₁ ≡ total n k₂
+one-total {n} {l} {d} {k₁} {a₁} {s₁} {k₂} {a₂} p q =
     let g = p .least refl .0 in
     let h = q .least refl .0 in
     omega (
@@ -81,28 +82,38 @@ module _ (o : Outcome) (t₁ t₂ : List ℕ) (a : Prints o t₁) (b : Prints o 
       ∙ text-ext n (a .kept) (b .kept) (first-cells n (a .kept) (b .kept) (a .planned n l 0 d e .fair refl .0 ∙ sym (b .planned n l 0 d e .fair refl .0))) l 0 d
       ∙ sym (text-of (Plans n l 0 d) e t₂ b)
 
-  least-text : (n l : ℕ) (d : List ℕ) → o ≡ Plans n l 1 d → SameButRows n l d t₁ t₂
-  unfolding outcomeText planText
-  least-text n l d e =
-      let p = a .planned n l 1 d e in
-      let q = b .planned n l 1 d e in
-      record {
-        keeps = total n (a .kept);
-        refuses = total n d - total n (a .kept);
-        one = record { kept = a .kept; withdrawn = a .withdrawn; schedule = a .schedule; planned = p; lines = text-of (Plans n l 1 d) e t₁ a };
-        other = record {
-          kept = b .kept;
-          withdrawn = b .withdrawn;
-          schedule = b .schedule;
-          planned = q;
-          lines =
-              text-of (Plans n l 1 d) e t₂ b
-              ∙ ap (λ k. headText n l 1 ++ totalsText k (total n d - k) ++ rowsText n (b .kept))
-              (one-total n l d (b .kept) (b .withdrawn) (b .schedule) (a .kept) (a .withdrawn) (a .schedule) q p);
-        };
-      }
+  module _ (n l : ℕ) (d : List ℕ) (e : o ≡ Plans n l 1 d) where
+    least-one : LeastText n l d (total n (a .kept)) (total n d - total n (a .kept)) t₁
+    unfolding outcomeText planText
+    least-one = record {
+      kept = a .kept;
+      withdrawn = a .withdrawn;
+      schedule = a .schedule;
+      planned = a .planned n l 1 d e;
+      lines = text-of (Plans n l 1 d) e t₁ a;
+    }
+
+    least-other : LeastText n l d (total n (a .kept)) (total n d - total n (a .kept)) t₂
+    unfolding outcomeText planText
+    least-other = record {
+      kept = b .kept;
+      withdrawn = b .withdrawn;
+      schedule = b .schedule;
+      planned = b .planned n l 1 d e;
+      lines =
+          text-of (Plans n l 1 d) e t₂ b
+          ∙ ap (λ k. headText n l 1 ++ totalsText k (total n d - k) ++ rowsText n (b .kept)) (one-total (b .planned n l 1 d e) (a .planned n l 1 d e));
+    }
 
 -- ---- two answers
+-- past its text the lent bytes are as before
+past : {input out out' : List ℕ} {r : ℕ} (a : Answered input out out' r) (m : ℕ) → r ≤ m → drop m out' ≡ drop m out
+unfolding written
+past {out = out} a m h =
+    let size = length (a .text) in
+    let e : size + (m - size) ≡ m = omega (arith, a .end) in
+    ap₂ drop (sym e) (a .bytes) ∙ drop-append-add (a .text) (drop size out) (m - size) ∙ drop-drop (m - size) size out ∙ ap (λ k. drop k out) e
+
 module _ (input out out₁ out₂ : List ℕ) (r₁ r₂ : ℕ) (a : Answered input out out₁ r₁) (b : Answered input out out₂ r₂) where
   same : a .text ≡ b .text → Same (a .text) out₁ r₁ (b .text) out₂ r₂
   same e = record {
@@ -113,10 +124,16 @@ module _ (input out out₁ out₂ : List ℕ) (r₁ r₂ : ℕ) (a : Answered in
 
   text-unique : Agree (outcome input) (a .text) out₁ r₁ (b .text) out₂ r₂
   text-unique = record {
-    bad = λ e. same (bad-text (outcome input) (a .text) (b .text) (a .prints) (b .prints) e);
-    refused = λ x e. same (refusal-text (outcome input) (a .text) (b .text) (a .prints) (b .prints) x e);
-    fair = λ n l d e. same (fair-text (outcome input) (a .text) (b .text) (a .prints) (b .prints) n l d e);
-    least = least-text (outcome input) (a .text) (b .text) (a .prints) (b .prints);
+    bad = λ e. same (bad-text _ _ _ (a .prints) (b .prints) e);
+    refused = λ x e. same (refusal-text _ _ _ (a .prints) (b .prints) x e);
+    fair = λ n l d e. same (fair-text _ _ _ (a .prints) (b .prints) n l d e);
+    least = λ n l d e. record {
+      keeps = total n (a .prints .kept);
+      refuses = total n d - total n (a .prints .kept);
+      one = least-one _ _ _ (a .prints) (b .prints) n l d e;
+      other = least-other _ _ _ (a .prints) (b .prints) n l d e;
+      rest = λ m h k. past a m h ∙ sym (past b m k);
+    };
   }
 
 -- ---- an input in order is planned

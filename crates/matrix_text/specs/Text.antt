@@ -20,7 +20,7 @@ unfoldable pub joinTo : ℕ → (ℕ → List ℕ) → List ℕ
 joinTo zero f = []
 joinTo (suc m) f = joinTo m f ++ f m
 
-abbrev pub lineFeed : List ℕ
+abbrev lineFeed : List ℕ
 lineFeed = bytes "\n"
 
 -- a word and a number

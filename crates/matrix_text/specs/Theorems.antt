@@ -3,7 +3,7 @@ use Prim.Native.Nat.{ℕ, _*_, _≤_, _<_}
 use mathlib.Core.Path.{_≡_}
 use mathlib.Core.List.{List, _∷_, _++_}
 use mathlib.Core.Option.{some}
-use lib.ListN.{length, getD}
+use lib.ListN.{length, getD, drop}
 use Rattle.star.specs.declared.refusals.Refusal.{Refusal}
 use Rattle.star.specs.Lines.{wholeFrame}
 use Rattle.planner.specs.Plans.{Plan}
@@ -25,12 +25,14 @@ pub record LeastText (n l : ℕ) (d : List ℕ) (keeps refuses : ℕ) (text : Li
   pub planned : Plan n l 1 (wholeFrame n l) d kept withdrawn schedule
   pub lines : text ≡ headText n l 1 ++ totalsText keeps refuses ++ rowsText n kept
 
--- Two texts of the least rule: line 1 and line 2, both totals included, are the same; the kept rows are those of two plans of the demand.
-pub record SameButRows (n l : ℕ) (d text₁ text₂ : List ℕ) : Type 0 where
+-- Two answers under the least rule: line 1 and line 2, both totals included, are the same; the kept rows are those of two plans of the demand; the
+-- lent bytes past both texts are the same.
+pub record SameButRows (n l : ℕ) (d text₁ out₁ : List ℕ) (r₁ : ℕ) (text₂ out₂ : List ℕ) (r₂ : ℕ) : Type 0 where
   pub keeps : ℕ
   pub refuses : ℕ
   pub one : LeastText n l d keeps refuses text₁
   pub other : LeastText n l d keeps refuses text₂
+  pub rest : (m : ℕ) → r₁ ≤ m → r₂ ≤ m → drop m out₁ ≡ drop m out₂
 
 -- Two answers to one input agree: where it is bad input, refused or planned under the fair rule, in everything; where it is planned under the least
 -- rule, in all but the kept rows. What is left is listed in docs/FREEDOMS.md.
@@ -38,7 +40,7 @@ pub record Agree (o : Outcome) (text₁ out₁ : List ℕ) (r₁ : ℕ) (text₂
   pub bad : o ≡ BadInput → Same text₁ out₁ r₁ text₂ out₂ r₂
   pub refused : (x : Refusal) → o ≡ Refuses x → Same text₁ out₁ r₁ text₂ out₂ r₂
   pub fair : (n l : ℕ) (d : List ℕ) → o ≡ Plans n l 0 d → Same text₁ out₁ r₁ text₂ out₂ r₂
-  pub least : (n l : ℕ) (d : List ℕ) → o ≡ Plans n l 1 d → SameButRows n l d text₁ text₂
+  pub least : (n l : ℕ) (d : List ℕ) → o ≡ Plans n l 1 d → SameButRows n l d text₁ out₁ r₁ text₂ out₂ r₂
 
 -- An input in order: at most 65,536 bytes, a list of N, L, the rule and exactly N×N demands, each number in its range.
 pub record InOrder (input : List ℕ) (n l rule : ℕ) (d : List ℕ) : Type 0 where
