@@ -69,7 +69,8 @@ record Examples : Type 0 where
   byte-too-many : (input : List ℕ) → length input ≡ 65537 → outcome input ≡ BadInput
 
 examples : Examples
-unfolding outcomeText outcome judgeList judge listOf numbersOf wordsFrom isNumber allDigits valueFrom planText headText totalsText refusalText rowsText rowText cellText joinTo named decimal digitsIn firstAbove firstBelow firstFrom total sumTo cell
+unfolding outcome judgeList judge listOf numbersOf wordsFrom isNumber allDigits valueFrom firstAbove firstBelow firstFrom
+    outcomeText planText headText totalsText refusalText rowsText rowText cellText joinTo named decimal digitsIn total sumTo cell
 examples = record {
   whole = refl;
   row-by-row = refl;
