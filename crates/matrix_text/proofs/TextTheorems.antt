@@ -62,48 +62,33 @@ one-total {n} {l} {d} {k₁} {a₁} {s₁} {k₂} {a₂} p q =
       h .most a₁ (g .withdrawn),
     )
 
--- ---- two texts of one outcome
-module _ (o : Outcome) (t₁ t₂ : List ℕ) (a : Prints o t₁) (b : Prints o t₂) where
-  -- each is the text of the outcome as it is known
-  text-of : (o' : Outcome) → o ≡ o' → (t : List ℕ) (p : Prints o t) → t ≡ outcomeText o' (p .kept)
-  text-of o' e t p = p .printed ∙ ap (λ x. outcomeText x (p .kept)) e
+-- ---- texts of one outcome
+text-of : {o o' : Outcome} {t : List ℕ} → o ≡ o' → (p : Prints o t) → t ≡ outcomeText o' (p .kept)
+text-of e p = p .printed ∙ ap (λ x. outcomeText x (p .kept)) e
 
-  bad-text : o ≡ BadInput → t₁ ≡ t₂
-  unfolding outcomeText
-  bad-text e = text-of BadInput e t₁ a ∙ sym (text-of BadInput e t₂ b)
+bad-text : {o : Outcome} {t₁ t₂ : List ℕ} → o ≡ BadInput → Prints o t₁ → Prints o t₂ → t₁ ≡ t₂
+unfolding outcomeText
+bad-text e a b = text-of e a ∙ sym (text-of e b)
 
-  refusal-text : (x : Refusal) → o ≡ Refuses x → t₁ ≡ t₂
-  unfolding outcomeText
-  refusal-text x e = text-of (Refuses x) e t₁ a ∙ sym (text-of (Refuses x) e t₂ b)
+refusal-text : {o : Outcome} {t₁ t₂ : List ℕ} (x : Refusal) → o ≡ Refuses x → Prints o t₁ → Prints o t₂ → t₁ ≡ t₂
+unfolding outcomeText
+refusal-text x e a b = text-of e a ∙ sym (text-of e b)
 
-  fair-text : (n l : ℕ) (d : List ℕ) → o ≡ Plans n l 0 d → t₁ ≡ t₂
-  fair-text n l d e =
-      text-of (Plans n l 0 d) e t₁ a
-      ∙ text-ext n (a .kept) (b .kept) (first-cells n (a .kept) (b .kept) (a .planned n l 0 d e .fair refl .0 ∙ sym (b .planned n l 0 d e .fair refl .0))) l 0 d
-      ∙ sym (text-of (Plans n l 0 d) e t₂ b)
+fair-text : {o : Outcome} {t₁ t₂ : List ℕ} (n l : ℕ) (d : List ℕ) → o ≡ Plans n l 0 d → Prints o t₁ → Prints o t₂ → t₁ ≡ t₂
+fair-text n l d e a b =
+    let one-matrix = a .planned n l 0 d e .fair refl .0 ∙ sym (b .planned n l 0 d e .fair refl .0) in
+    text-of e a ∙ text-ext n (a .kept) (b .kept) (first-cells n (a .kept) (b .kept) one-matrix) l 0 d ∙ sym (text-of e b)
 
-  module _ (n l : ℕ) (d : List ℕ) (e : o ≡ Plans n l 1 d) where
-    least-one : LeastText n l d (total n (a .kept)) (total n d - total n (a .kept)) t₁
-    unfolding outcomeText planText
-    least-one = record {
-      kept = a .kept;
-      withdrawn = a .withdrawn;
-      schedule = a .schedule;
-      planned = a .planned n l 1 d e;
-      lines = text-of (Plans n l 1 d) e t₁ a;
-    }
-
-    least-other : LeastText n l d (total n (a .kept)) (total n d - total n (a .kept)) t₂
-    unfolding outcomeText planText
-    least-other = record {
-      kept = b .kept;
-      withdrawn = b .withdrawn;
-      schedule = b .schedule;
-      planned = b .planned n l 1 d e;
-      lines =
-          text-of (Plans n l 1 d) e t₂ b
-          ∙ ap (λ k. headText n l 1 ++ totalsText k (total n d - k) ++ rowsText n (b .kept)) (one-total (b .planned n l 1 d e) (a .planned n l 1 d e));
-    }
+-- where k is the kept total
+least-text : {o : Outcome} {t : List ℕ} (n l : ℕ) (d : List ℕ) (k : ℕ) → o ≡ Plans n l 1 d → (p : Prints o t) → total n (p .kept) ≡ k → LeastText n l d k (total n d - k) t
+unfolding outcomeText planText
+least-text n l d k e p is = record {
+  kept = p .kept;
+  withdrawn = p .withdrawn;
+  schedule = p .schedule;
+  planned = p .planned n l 1 d e;
+  lines = text-of e p ∙ ap (λ x. headText n l 1 ++ totalsText x (total n d - x) ++ rowsText n (p .kept)) is;
+}
 
 -- ---- two answers
 -- past its text the lent bytes are as before
@@ -124,16 +109,18 @@ module _ (input out out₁ out₂ : List ℕ) (r₁ r₂ : ℕ) (a : Answered in
 
   text-unique : Agree (outcome input) (a .text) out₁ r₁ (b .text) out₂ r₂
   text-unique = record {
-    bad = λ e. same (bad-text _ _ _ (a .prints) (b .prints) e);
-    refused = λ x e. same (refusal-text _ _ _ (a .prints) (b .prints) x e);
-    fair = λ n l d e. same (fair-text _ _ _ (a .prints) (b .prints) n l d e);
-    least = λ n l d e. record {
-      keeps = total n (a .prints .kept);
-      refuses = total n d - total n (a .prints .kept);
-      one = least-one _ _ _ (a .prints) (b .prints) n l d e;
-      other = least-other _ _ _ (a .prints) (b .prints) n l d e;
-      rest = λ m h k. past a m h ∙ sym (past b m k);
-    };
+    bad = λ e. same (bad-text e (a .prints) (b .prints));
+    refused = λ x e. same (refusal-text x e (a .prints) (b .prints));
+    fair = λ n l d e. same (fair-text n l d e (a .prints) (b .prints));
+    least = λ n l d e.
+        let k = total n (a .prints .kept) in
+        record {
+          keeps = k;
+          refuses = total n d - k;
+          one = least-text n l d k e (a .prints) refl;
+          other = least-text n l d k e (b .prints) (one-total (b .prints .planned n l 1 d e) (a .prints .planned n l 1 d e));
+          rest = λ m h g. past a m h ∙ sym (past b m g);
+        };
   }
 
 -- ---- an input in order is planned
