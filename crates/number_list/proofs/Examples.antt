@@ -16,6 +16,8 @@ abbrev junk : String → Type 0
 junk input = listOf (bytes input) ≡ none
 
 record Examples : Type 0 where
+  -- the bytes of a text
+  as-bytes : bytes "09 \naz" ≡ 48 ∷ 57 ∷ 32 ∷ 10 ∷ 97 ∷ 122 ∷ []
   -- a number has 1 to 9 digits; leading zeros are digits too
   one-digit : reads "0" (0 ∷ [])
   nine-digits : reads "999999999" (999999999 ∷ [])
@@ -52,6 +54,7 @@ record Examples : Type 0 where
 examples : Examples
 unfolding listOf numbersOf wordsFrom isNumber allDigits valueFrom
 examples = record {
+  as-bytes = refl;
   one-digit = refl;
   nine-digits = refl;
   nine-with-zeros = refl;

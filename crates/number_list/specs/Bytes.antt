@@ -1,4 +1,4 @@
--- The bytes of a text, for texts of characters that are one byte each.
+-- The bytes that a text in quotes stands for: for each character the byte with its number, as 97 for a.
 use Prim.Native.Nat.{ℕ}
 use Prim.Native.Char.{code}
 use Prim.Native.String.{String, [] as empty, _∷_ as _then_}
