@@ -1,81 +1,102 @@
 -- Inputs and what is printed for them, to the byte: document 01's example and the edges of its order, each by computation. Assumes nothing.
+use Prim.Native.Nat.{ℕ}
+use Prim.Native.String.{String}
 use mathlib.Core.Path.{_≡_, refl}
-use mathlib.Core.List.{[], _∷_}
+use mathlib.Core.List.{List, [], _∷_}
+use lib.ListN.{length}
 use Rattle.sums.specs.Sums.{sumTo}
 use Rattle.sums.specs.Searches.{firstBelow, firstFrom}
 use Rattle.sums.specs.Tables.{cell}
 use Rattle.star.specs.Lines.{total}
 use Rattle.star.specs.Refusals.{firstAbove}
+use Rattle.number_list.specs.Bytes.{bytes}
 use Rattle.number_list.specs.Input.{listOf, numbersOf, wordsFrom, isNumber, allDigits, valueFrom}
 use Rattle.matrix_text.specs.Text.{decimal, digitsIn, joinTo, named, refusalText, headText, totalsText, cellText, rowText, rowsText, planText}
-use Rattle.matrix_text.specs.Outcomes.{outcome, judgeList, judge, outcomeText}
+use Rattle.matrix_text.specs.Outcomes.{BadInput, outcome, judgeList, judge, outcomeText}
 
--- document 01's example, with the kept matrix that every plan of it has
-whole : outcomeText (outcome (50 ∷ 32 ∷ 49 ∷ 48 ∷ 32 ∷ 49 ∷ 32 ∷ 49 ∷ 49 ∷ 32 ∷ 49 ∷ 32 ∷ 48 ∷ 32 ∷ 48 ∷ [])) (9 ∷ 1 ∷ 0 ∷ 0 ∷ []) ≡ 110 ∷ 111 ∷ 100 ∷ 101 ∷ 115 ∷ 32 ∷ 50 ∷ 32 ∷ 115 ∷ 108 ∷ 111 ∷ 116 ∷ 115 ∷ 32 ∷ 49 ∷ 48 ∷ 32 ∷ 114 ∷ 117 ∷ 108 ∷ 101 ∷ 32 ∷ 49 ∷ 10 ∷ 107 ∷ 101 ∷ 112 ∷ 116 ∷ 32 ∷ 49 ∷ 48 ∷ 32 ∷ 114 ∷ 101 ∷ 102 ∷ 117 ∷ 115 ∷ 101 ∷ 100 ∷ 32 ∷ 50 ∷ 10 ∷ 57 ∷ 32 ∷ 49 ∷ 10 ∷ 48 ∷ 32 ∷ 48 ∷ 10 ∷ []
-unfolding outcomeText outcome judgeList judge listOf numbersOf wordsFrom isNumber allDigits valueFrom planText headText totalsText refusalText rowsText rowText cellText joinTo named decimal digitsIn firstAbove firstBelow firstFrom total sumTo cell
-whole = refl
+-- what is printed for an input whose plan has this kept matrix
+abbrev plans : (input : String) (kept : List ℕ) (text : String) → Type 0
+plans input kept text = outcomeText (outcome (bytes input)) kept ≡ bytes text
 
--- one or more spaces or line feeds, also at either end; leading zeros are counted and not printed
-spaced : outcomeText (outcome (10 ∷ 32 ∷ 48 ∷ 49 ∷ 32 ∷ 48 ∷ 52 ∷ 32 ∷ 32 ∷ 48 ∷ 48 ∷ 10 ∷ 10 ∷ 48 ∷ 53 ∷ 32 ∷ [])) (4 ∷ []) ≡ 110 ∷ 111 ∷ 100 ∷ 101 ∷ 115 ∷ 32 ∷ 49 ∷ 32 ∷ 115 ∷ 108 ∷ 111 ∷ 116 ∷ 115 ∷ 32 ∷ 52 ∷ 32 ∷ 114 ∷ 117 ∷ 108 ∷ 101 ∷ 32 ∷ 48 ∷ 10 ∷ 107 ∷ 101 ∷ 112 ∷ 116 ∷ 32 ∷ 52 ∷ 32 ∷ 114 ∷ 101 ∷ 102 ∷ 117 ∷ 115 ∷ 101 ∷ 100 ∷ 32 ∷ 49 ∷ 10 ∷ 52 ∷ 10 ∷ []
-unfolding outcomeText outcome judgeList judge listOf numbersOf wordsFrom isNumber allDigits valueFrom planText headText totalsText refusalText rowsText rowText cellText joinTo named decimal digitsIn firstAbove firstBelow firstFrom total sumTo cell
-spaced = refl
+-- what is printed for an input that has no plan
+abbrev says : (input text : String) → Type 0
+says input text = (kept : List ℕ) → outcomeText (outcome (bytes input)) kept ≡ bytes text
 
--- ten digits, though their value is 1
-ten-digits : outcomeText (outcome (48 ∷ 48 ∷ 48 ∷ 48 ∷ 48 ∷ 48 ∷ 48 ∷ 48 ∷ 48 ∷ 49 ∷ 32 ∷ 52 ∷ 32 ∷ 48 ∷ 32 ∷ 49 ∷ [])) ([]) ≡ 98 ∷ 97 ∷ 100 ∷ 32 ∷ 105 ∷ 110 ∷ 112 ∷ 117 ∷ 116 ∷ 10 ∷ []
-unfolding outcomeText outcome judgeList judge listOf numbersOf wordsFrom isNumber allDigits valueFrom planText headText totalsText refusalText rowsText rowText cellText joinTo named decimal digitsIn firstAbove firstBelow firstFrom total sumTo cell
-ten-digits = refl
+record Examples : Type 0 where
+  -- document 01's example, with the kept matrix that every plan of it has
+  whole : plans "2 10 1 11 1 0 0" (9 ∷ 1 ∷ 0 ∷ 0 ∷ []) "nodes 2 slots 10 rule 1\nkept 10 refused 2\n9 1\n0 0\n"
+  -- a line for each source, in it a number for each destination
+  row-by-row : plans "2 10 0 1 2 3 4" (1 ∷ 2 ∷ 3 ∷ 4 ∷ []) "nodes 2 slots 10 rule 0\nkept 10 refused 0\n1 2\n3 4\n"
+  -- the kept total, then the refused one
+  totals : totalsText 7 15 ≡ bytes "kept 7 refused 15\n"
+  -- no leading zeros; 0 is one digit
+  nought : decimal 0 ≡ bytes "0"
+  largest : decimal 4294967295 ≡ bytes "4294967295"
+  -- one or more spaces or line feeds, also at either end; leading zeros are counted and not printed
+  spaced : plans "\n 01 04  00\n\n05 " (4 ∷ []) "nodes 1 slots 4 rule 0\nkept 4 refused 1\n4\n"
+  -- the ends of the ranges
+  lowest : plans "1 1 0 0" (0 ∷ []) "nodes 1 slots 1 rule 0\nkept 0 refused 0\n0\n"
+  highest : plans "1 1024 1 65535" (1024 ∷ []) "nodes 1 slots 1024 rule 1\nkept 1024 refused 64511\n1024\n"
+  -- nine digits are a number, and ten are none, though their value is 1
+  nine-digits : says "999999999 4 0 1" "refused 1 0\n"
+  nine-digits-asked : says "1 4 0 999999999" "refused 6 0\n"
+  ten-digits : says "0000000001 4 0 1" "bad input\n"
+  -- fewer than three numbers
+  nothing : says "" "bad input\n"
+  two-numbers : says "0 0" "bad input\n"
+  -- the form of the whole list comes before every refusal
+  junk-first : says "0 0 9 x" "bad input\n"
+  -- a tab parts nothing
+  tab : says "1 4 0\t5" "bad input\n"
+  -- refusal 1 before 2 and 3, and before the count
+  no-nodes : says "0 0 9" "refused 1 0\n"
+  many-nodes : says "65 4 0 1 2" "refused 1 0\n"
+  -- refusal 2 before 3, and before the count
+  no-slots : says "1 0 7" "refused 2 0\n"
+  many-slots : says "1 1025 7" "refused 2 0\n"
+  -- refusal 3 before the count
+  no-rule : says "1 4 2" "refused 3 0\n"
+  -- a wrong count of demands, also of 64 nodes, which are not too many
+  no-demands : says "1 4 0" "bad input\n"
+  most-nodes : says "64 4 0 1" "bad input\n"
+  -- the count before refusal 6
+  two-demands : says "1 4 0 65536 65536" "bad input\n"
+  -- refusal 6, whose place is the first such cell
+  above : says "2 4 0 0 0 0 65536" "refused 6 3\n"
+  first-above : says "2 4 0 0 65536 0 65536" "refused 6 1\n"
+  -- input of 65,536 bytes is judged; a byte more is too many
+  last-byte : (input : List ℕ) → length input ≡ 65536 → outcome input ≡ judgeList (listOf input)
+  byte-too-many : (input : List ℕ) → length input ≡ 65537 → outcome input ≡ BadInput
 
--- nothing at all
-nothing : outcomeText (outcome ([])) ([]) ≡ 98 ∷ 97 ∷ 100 ∷ 32 ∷ 105 ∷ 110 ∷ 112 ∷ 117 ∷ 116 ∷ 10 ∷ []
-unfolding outcomeText outcome judgeList judge listOf numbersOf wordsFrom isNumber allDigits valueFrom planText headText totalsText refusalText rowsText rowText cellText joinTo named decimal digitsIn firstAbove firstBelow firstFrom total sumTo cell
-nothing = refl
-
--- fewer than three numbers
-two-numbers : outcomeText (outcome (48 ∷ 32 ∷ 48 ∷ [])) ([]) ≡ 98 ∷ 97 ∷ 100 ∷ 32 ∷ 105 ∷ 110 ∷ 112 ∷ 117 ∷ 116 ∷ 10 ∷ []
-unfolding outcomeText outcome judgeList judge listOf numbersOf wordsFrom isNumber allDigits valueFrom planText headText totalsText refusalText rowsText rowText cellText joinTo named decimal digitsIn firstAbove firstBelow firstFrom total sumTo cell
-two-numbers = refl
-
--- the form of the whole list comes before every refusal
-junk-first : outcomeText (outcome (48 ∷ 32 ∷ 48 ∷ 32 ∷ 57 ∷ 32 ∷ 120 ∷ [])) ([]) ≡ 98 ∷ 97 ∷ 100 ∷ 32 ∷ 105 ∷ 110 ∷ 112 ∷ 117 ∷ 116 ∷ 10 ∷ []
-unfolding outcomeText outcome judgeList judge listOf numbersOf wordsFrom isNumber allDigits valueFrom planText headText totalsText refusalText rowsText rowText cellText joinTo named decimal digitsIn firstAbove firstBelow firstFrom total sumTo cell
-junk-first = refl
-
--- a tab parts nothing
-tab : outcomeText (outcome (49 ∷ 32 ∷ 52 ∷ 32 ∷ 48 ∷ 9 ∷ 53 ∷ [])) ([]) ≡ 98 ∷ 97 ∷ 100 ∷ 32 ∷ 105 ∷ 110 ∷ 112 ∷ 117 ∷ 116 ∷ 10 ∷ []
-unfolding outcomeText outcome judgeList judge listOf numbersOf wordsFrom isNumber allDigits valueFrom planText headText totalsText refusalText rowsText rowText cellText joinTo named decimal digitsIn firstAbove firstBelow firstFrom total sumTo cell
-tab = refl
-
--- refusal 1 before 2 and 3, and before the count
-no-nodes : outcomeText (outcome (48 ∷ 32 ∷ 48 ∷ 32 ∷ 57 ∷ [])) ([]) ≡ 114 ∷ 101 ∷ 102 ∷ 117 ∷ 115 ∷ 101 ∷ 100 ∷ 32 ∷ 49 ∷ 32 ∷ 48 ∷ 10 ∷ []
-unfolding outcomeText outcome judgeList judge listOf numbersOf wordsFrom isNumber allDigits valueFrom planText headText totalsText refusalText rowsText rowText cellText joinTo named decimal digitsIn firstAbove firstBelow firstFrom total sumTo cell
-no-nodes = refl
-
--- refusal 1 before the count
-many-nodes : outcomeText (outcome (54 ∷ 53 ∷ 32 ∷ 52 ∷ 32 ∷ 48 ∷ 32 ∷ 49 ∷ 32 ∷ 50 ∷ [])) ([]) ≡ 114 ∷ 101 ∷ 102 ∷ 117 ∷ 115 ∷ 101 ∷ 100 ∷ 32 ∷ 49 ∷ 32 ∷ 48 ∷ 10 ∷ []
-unfolding outcomeText outcome judgeList judge listOf numbersOf wordsFrom isNumber allDigits valueFrom planText headText totalsText refusalText rowsText rowText cellText joinTo named decimal digitsIn firstAbove firstBelow firstFrom total sumTo cell
-many-nodes = refl
-
--- refusal 2 before 3
-many-slots : outcomeText (outcome (49 ∷ 32 ∷ 49 ∷ 48 ∷ 50 ∷ 53 ∷ 32 ∷ 55 ∷ [])) ([]) ≡ 114 ∷ 101 ∷ 102 ∷ 117 ∷ 115 ∷ 101 ∷ 100 ∷ 32 ∷ 50 ∷ 32 ∷ 48 ∷ 10 ∷ []
-unfolding outcomeText outcome judgeList judge listOf numbersOf wordsFrom isNumber allDigits valueFrom planText headText totalsText refusalText rowsText rowText cellText joinTo named decimal digitsIn firstAbove firstBelow firstFrom total sumTo cell
-many-slots = refl
-
--- refusal 3 before the count
-no-rule : outcomeText (outcome (49 ∷ 32 ∷ 52 ∷ 32 ∷ 50 ∷ [])) ([]) ≡ 114 ∷ 101 ∷ 102 ∷ 117 ∷ 115 ∷ 101 ∷ 100 ∷ 32 ∷ 51 ∷ 32 ∷ 48 ∷ 10 ∷ []
-unfolding outcomeText outcome judgeList judge listOf numbersOf wordsFrom isNumber allDigits valueFrom planText headText totalsText refusalText rowsText rowText cellText joinTo named decimal digitsIn firstAbove firstBelow firstFrom total sumTo cell
-no-rule = refl
-
--- a wrong count of demands
-no-demands : outcomeText (outcome (49 ∷ 32 ∷ 52 ∷ 32 ∷ 48 ∷ [])) ([]) ≡ 98 ∷ 97 ∷ 100 ∷ 32 ∷ 105 ∷ 110 ∷ 112 ∷ 117 ∷ 116 ∷ 10 ∷ []
-unfolding outcomeText outcome judgeList judge listOf numbersOf wordsFrom isNumber allDigits valueFrom planText headText totalsText refusalText rowsText rowText cellText joinTo named decimal digitsIn firstAbove firstBelow firstFrom total sumTo cell
-no-demands = refl
-
--- the count before refusal 6
-two-demands : outcomeText (outcome (49 ∷ 32 ∷ 52 ∷ 32 ∷ 48 ∷ 32 ∷ 54 ∷ 53 ∷ 53 ∷ 51 ∷ 54 ∷ 32 ∷ 54 ∷ 53 ∷ 53 ∷ 51 ∷ 54 ∷ [])) ([]) ≡ 98 ∷ 97 ∷ 100 ∷ 32 ∷ 105 ∷ 110 ∷ 112 ∷ 117 ∷ 116 ∷ 10 ∷ []
-unfolding outcomeText outcome judgeList judge listOf numbersOf wordsFrom isNumber allDigits valueFrom planText headText totalsText refusalText rowsText rowText cellText joinTo named decimal digitsIn firstAbove firstBelow firstFrom total sumTo cell
-two-demands = refl
-
--- refusal 6, whose place is the cell
-above : outcomeText (outcome (50 ∷ 32 ∷ 52 ∷ 32 ∷ 48 ∷ 32 ∷ 48 ∷ 32 ∷ 48 ∷ 32 ∷ 48 ∷ 32 ∷ 54 ∷ 53 ∷ 53 ∷ 51 ∷ 54 ∷ [])) ([]) ≡ 114 ∷ 101 ∷ 102 ∷ 117 ∷ 115 ∷ 101 ∷ 100 ∷ 32 ∷ 54 ∷ 32 ∷ 51 ∷ 10 ∷ []
-unfolding outcomeText outcome judgeList judge listOf numbersOf wordsFrom isNumber allDigits valueFrom planText headText totalsText refusalText rowsText rowText cellText joinTo named decimal digitsIn firstAbove firstBelow firstFrom total sumTo cell
-above = refl
+examples : Examples
+unfolding outcome judgeList judge listOf numbersOf wordsFrom isNumber allDigits valueFrom firstAbove firstBelow firstFrom
+    outcomeText planText headText totalsText refusalText rowsText rowText cellText joinTo named decimal digitsIn total sumTo cell
+examples = record {
+  whole = refl;
+  row-by-row = refl;
+  totals = refl;
+  nought = refl;
+  largest = refl;
+  spaced = refl;
+  lowest = refl;
+  highest = refl;
+  nine-digits = λ kept. refl;
+  nine-digits-asked = λ kept. refl;
+  ten-digits = λ kept. refl;
+  nothing = λ kept. refl;
+  two-numbers = λ kept. refl;
+  junk-first = λ kept. refl;
+  tab = λ kept. refl;
+  no-nodes = λ kept. refl;
+  many-nodes = λ kept. refl;
+  no-slots = λ kept. refl;
+  many-slots = λ kept. refl;
+  no-rule = λ kept. refl;
+  no-demands = λ kept. refl;
+  most-nodes = λ kept. refl;
+  two-demands = λ kept. refl;
+  above = λ kept. refl;
+  first-above = λ kept. refl;
+  last-byte = λ input e. rw e refl;
+  byte-too-many = λ input e. rw e refl;
+}

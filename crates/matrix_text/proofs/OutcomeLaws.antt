@@ -7,10 +7,10 @@ use mathlib.Core.Path.{_≡_, refl, sym, _∙_, ap, subst}
 use mathlib.Core.Bool.{Bool, true, false, _||_}
 use mathlib.Core.List.{List, [], _∷_}
 use mathlib.Core.Option.{none}
-use lib.Dec.{ltb, leb, eqb}
+use lib.Dec.{leb, eqb}
 use lib.ListN.{length, getD, take, drop, length-append, length-drop}
 use lib.Seq.{getD-take, take-all, take-add, drop-at, length-take-le}
-use borrow.Author.Tests.{ltb-false, eqb-true, lt-ltb, le-ltb, le-leb, lt-leb}
+use borrow.Author.Tests.{eqb-true, lt-ltb, le-ltb, le-leb, lt-leb}
 use Rattle.sums.specs.Tables.{written}
 use Rattle.sums.proofs.Cases.{by-test}
 use Rattle.sums.proofs.Tables.{mul-small}
@@ -38,7 +38,7 @@ or-true false = refl
 taken : {b : Bool} (x y : Outcome) → b ≡ true → orElse b x y ≡ x
 taken x y e = rw e refl
 
-left : {b : Bool} (x : Outcome) {y z : Outcome} → b ≡ false → y ≡ z → orElse b x y ≡ z
+pub left : {b : Bool} (x : Outcome) {y z : Outcome} → b ≡ false → y ≡ z → orElse b x y ≡ z
 left x e h = rw e h
 
 -- ---- answers

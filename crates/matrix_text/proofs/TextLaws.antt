@@ -12,6 +12,7 @@ use borrow.Author.Tests.{lt-ltb, le-ltb}
 use Rattle.sums.specs.Tables.{cell, written}
 use Rattle.sums.proofs.Cases.{by-lt}
 use Rattle.sums.proofs.Tables.{mul-small}
+use Rattle.number_list.specs.Bytes.{bytes}
 use Rattle.matrix_text.specs.Text.{decimal, digitsIn, joinTo, named, refusalText, headText, totalsText, cellText, rowText, rowsText, planText, room}
 use Rattle.matrix_text.specs.Writes.{Appended}
 
@@ -86,7 +87,7 @@ pub one-digit-more : (n : ℕ) → 10 ≤ n → length (decimal n) ≡ length (d
 one-digit-more n high = rw (decimal-more n high) (length-append (decimal (n / 10)) ((48 + n % 10) ∷ []))
 
 -- a number below 10 ^ k has at most k digits
-pub decimal-length : (k n : ℕ) → n < 10 ^ suc k → length (decimal n) ≤ suc k
+decimal-length : (k n : ℕ) → n < 10 ^ suc k → length (decimal n) ≤ suc k
 decimal-length zero n h = omega (arith, one-digit n (omega (arith, pow-suc 10 0)))
 decimal-length (suc k) n h =
     by-lt n 10
@@ -113,7 +114,7 @@ module _ (f : ℕ → List ℕ) where
       (λ high. let e : m ≡ n = omega arith in rw e (omega (arith, length-append (joinTo n f) (f n))))
 
   -- pieces of at most c bytes each
-  pub join-most : (n c : ℕ) → ((k : ℕ) → k < n → length (f k) ≤ c) → length (joinTo n f) ≤ n * c
+  join-most : (n c : ℕ) → ((k : ℕ) → k < n → length (f k) ≤ c) → length (joinTo n f) ≤ n * c
   unfolding joinTo
   join-most zero c most = omega arith
   join-most (suc n) c most = omega (arith, length-append (joinTo n f) (f n), join-most n c (λ k h. most k (omega arith)), most n (omega arith))
@@ -129,7 +130,7 @@ named-length word n h = omega (arith, length-append word (decimal n), word-lengt
 
 pub refusal-fits : (number place : ℕ) → number < 4294967296 → place < 4294967296 → length (refusalText number place) ≤ room
 unfolding refusalText
-refusal-fits number place hn hp = simp length-append (omega (arith, named-length (114 ∷ 101 ∷ 102 ∷ 117 ∷ 115 ∷ 101 ∷ 100 ∷ 32 ∷ []) number hn, named-length (32 ∷ []) place hp))
+refusal-fits number place hn hp = simp length-append (omega (arith, named-length (bytes "refused ") number hn, named-length (bytes " ") place hp))
 
 head-length : (n l rule : ℕ) → n < 4294967296 → l < 4294967296 → rule < 4294967296 → length (headText n l rule) ≤ 50
 unfolding headText
@@ -137,14 +138,14 @@ head-length n l rule hn hl hr =
     simp length-append
     (omega (
       arith,
-      named-length (110 ∷ 111 ∷ 100 ∷ 101 ∷ 115 ∷ 32 ∷ []) n hn,
-      named-length (32 ∷ 115 ∷ 108 ∷ 111 ∷ 116 ∷ 115 ∷ 32 ∷ []) l hl,
-      named-length (32 ∷ 114 ∷ 117 ∷ 108 ∷ 101 ∷ 32 ∷ []) rule hr,
+      named-length (bytes "nodes ") n hn,
+      named-length (bytes " slots ") l hl,
+      named-length (bytes " rule ") rule hr,
     ))
 
 totals-length : (k f : ℕ) → k < 4294967296 → f < 4294967296 → length (totalsText k f) ≤ 35
 unfolding totalsText
-totals-length k f hk hf = simp length-append (omega (arith, named-length (107 ∷ 101 ∷ 112 ∷ 116 ∷ 32 ∷ []) k hk, named-length (32 ∷ 114 ∷ 101 ∷ 102 ∷ 117 ∷ 115 ∷ 101 ∷ 100 ∷ 32 ∷ []) f hf))
+totals-length k f hk hf = simp length-append (omega (arith, named-length (bytes "kept ") k hk, named-length (bytes " refused ") f hf))
 
 module _ (n : ℕ) (kept : List ℕ) (words : (p : ℕ) → getD kept p 0 < 4294967296) where
   cell-length : (i j : ℕ) → length (cellText n kept i j) ≤ 11

@@ -1,4 +1,5 @@
--- What the matrix program reads, what it prints, and in which order it decides.
+-- What the matrix program reads, what it prints, in which order it decides, and what follows from it.
 pub mod Text
 pub mod Outcomes
 pub mod Writes
+pub mod Theorems

@@ -4,6 +4,7 @@ use mathlib.Core.Bool.{true, false, cond}
 use mathlib.Core.List.{List, [], _∷_, _++_}
 use lib.Dec.{ltb, eqb}
 use Rattle.sums.specs.Tables.{cell}
+use Rattle.number_list.specs.Bytes.{bytes}
 
 -- the decimal digits of n in as many turns as are given, a digit each
 unfoldable pub digitsIn : (turns n : ℕ) → List ℕ
@@ -19,8 +20,8 @@ unfoldable pub joinTo : ℕ → (ℕ → List ℕ) → List ℕ
 joinTo zero f = []
 joinTo (suc m) f = joinTo m f ++ f m
 
-abbrev pub lineFeed : List ℕ
-lineFeed = 10 ∷ []
+abbrev lineFeed : List ℕ
+lineFeed = bytes "\n"
 
 -- a word and a number
 unfoldable pub named : (word : List ℕ) (n : ℕ) → List ℕ
@@ -28,23 +29,19 @@ named word n = word ++ decimal n
 
 -- "bad input", and a line feed
 abbrev pub badInput : List ℕ
-badInput = 98 ∷ 97 ∷ 100 ∷ 32 ∷ 105 ∷ 110 ∷ 112 ∷ 117 ∷ 116 ∷ 10 ∷ []
+badInput = bytes "bad input\n"
 
 -- A refusal prints one line, as `refused 6 3`: the number, the place.
 unfoldable pub refusalText : (number place : ℕ) → List ℕ
-refusalText number place = named (114 ∷ 101 ∷ 102 ∷ 117 ∷ 115 ∷ 101 ∷ 100 ∷ 32 ∷ []) number ++ named (32 ∷ []) place ++ lineFeed
+refusalText number place = named (bytes "refused ") number ++ named (bytes " ") place ++ lineFeed
 
 -- Line 1 gives N, L and the rule: `nodes 2 slots 10 rule 1`.
 unfoldable pub headText : (n l rule : ℕ) → List ℕ
-headText n l rule =
-    named (110 ∷ 111 ∷ 100 ∷ 101 ∷ 115 ∷ 32 ∷ []) n
-    ++ named (32 ∷ 115 ∷ 108 ∷ 111 ∷ 116 ∷ 115 ∷ 32 ∷ []) l
-    ++ named (32 ∷ 114 ∷ 117 ∷ 108 ∷ 101 ∷ 32 ∷ []) rule
-    ++ lineFeed
+headText n l rule = named (bytes "nodes ") n ++ named (bytes " slots ") l ++ named (bytes " rule ") rule ++ lineFeed
 
 -- Line 2 gives the two totals: `kept 10 refused 2`.
 unfoldable pub totalsText : (kept refused : ℕ) → List ℕ
-totalsText kept refused = named (107 ∷ 101 ∷ 112 ∷ 116 ∷ 32 ∷ []) kept ++ named (32 ∷ 114 ∷ 101 ∷ 102 ∷ 117 ∷ 115 ∷ 101 ∷ 100 ∷ 32 ∷ []) refused ++ lineFeed
+totalsText kept refused = named (bytes "kept ") kept ++ named (bytes " refused ") refused ++ lineFeed
 
 -- what follows the number of destination j: a space, or a line feed after the last one
 abbrev pub markAfter : (n j : ℕ) → ℕ

@@ -1,3 +1,3 @@
 // The matrix program's work: from the bytes that it reads to the bytes that it writes.
 pub mod answers;
-pub mod text;
+mod text;

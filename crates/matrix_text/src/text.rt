@@ -1,5 +1,5 @@
-// The printed text, piece by piece. Each function writes from `at` on, or from the front, and gives the place after what it wrote; each asks that
-// its text fits.
+// The printed text, piece by piece. Each function that puts a piece gives the place after it. A piece is written from `at` on, and must fit; the three
+// whole texts, of bad input, of a refusal and of a plan, are written from the front, and ask for room for the longest.
 use star::tables::get;
 ghost use mathlib.Core.Path.{_≡_};
 ghost use mathlib.Core.List.{[], _∷_};

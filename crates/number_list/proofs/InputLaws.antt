@@ -53,7 +53,7 @@ digits-stay (x ∷ word) b e = go (allDigits word) refl e (digits-stay word b)
     go false q h rest = rw (rest q)
     go true q h rest = rw h (and-false (allDigits (word ++ (b ∷ []))))
 
-pub length-more : (word : List ℕ) (b : ℕ) → length (word ++ (b ∷ [])) ≡ length word + 1
+length-more : (word : List ℕ) (b : ℕ) → length (word ++ (b ∷ [])) ≡ length word + 1
 length-more word b = length-append word (b ∷ [])
 
 is-number : (word : List ℕ) → length word ≤ 9 → allDigits word ≡ true → isNumber word ≡ true
@@ -82,7 +82,7 @@ unfolding numbersOf isNumber allDigits
 no-number [] words e = absurd (false≢true (sym e))
 no-number (b ∷ word) words e = rw (e, numbersOf)
 
-pub a-number : (word : List ℕ) (words : List (List ℕ)) → 0 < length word → isNumber word ≡ true → numbersOf (word ∷ words) ≡ after (valueFrom 0 word ∷ []) (numbersOf words)
+a-number : (word : List ℕ) (words : List (List ℕ)) → 0 < length word → isNumber word ≡ true → numbersOf (word ∷ words) ≡ after (valueFrom 0 word ∷ []) (numbersOf words)
 unfolding numbersOf
 a-number [] words p e = absurd (omega arith)
 a-number (b ∷ word) words p e = rw (e, numbersOf)
@@ -126,7 +126,7 @@ value-lt v (x ∷ word) all =
     rw (pow-suc 10 (length word)) (omega arith)
 
 -- fewer than nine digits leave room for one more
-pub value-room : (word : List ℕ) → allDigits word ≡ true → length word < 9 → valueFrom 0 word < 100000000
+value-room : (word : List ℕ) → allDigits word ≡ true → length word < 9 → valueFrom 0 word < 100000000
 value-room word all few =
     let most : 10 ^ length word ≤ 10 ^ 8 = pow-le-pow-right {n = 10} (omega arith) {i = length word} {j = 8} (omega arith) in
     omega (arith, value-lt 0 word all)
@@ -225,11 +225,11 @@ module _ (input : List ℕ) (i digits value count : ℕ) (table : List ℕ) (r :
 
   -- the numbers done once the word at hand has ended
   module _ (table' : List ℕ) (count' : ℕ) (w : Ended table table' count count' digits value) where
-    pub record Done : Type 0 where
-      pub numbers : List ℕ
-      pub ends : (words : List (List ℕ)) → after (r .done) (numbersOf (r .word ∷ words)) ≡ after numbers (numbersOf words)
-      pub kept : Stored table' count' numbers
-      pub more : count' ≤ count + 1
+    record Done : Type 0 where
+      numbers : List ℕ
+      ends : (words : List (List ℕ)) → after (r .done) (numbersOf (r .word ∷ words)) ≡ after numbers (numbersOf words)
+      kept : Stored table' count' numbers
+      more : count' ≤ count + 1
 
     done-empty : digits ≡ 0 → Done
     done-empty e = record {

@@ -1,2 +1,3 @@
--- The laws of reading a list byte by byte.
+-- The laws of reading a list byte by byte, and examples by computation.
+pub mod Examples
 pub mod InputLaws

@@ -1,3 +1,4 @@
 -- Lists of decimal numbers, and what reading one gives.
+pub mod Bytes
 pub mod Input
 pub mod Reads
