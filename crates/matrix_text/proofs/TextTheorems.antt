@@ -11,17 +11,14 @@ use lib.ListN.{length, getD, take, drop}
 use lib.Seq.{drop-drop, drop-append-add}
 use borrow.Author.Tests.{ltb-false, le-ltb, eqb-true, eq-eqb}
 use Rattle.sums.specs.Tables.{cell, written}
-use Rattle.sums.proofs.Searches.{first-none}
-use Rattle.sums.proofs.Tables.{take-cell}
+use Rattle.sums.proofs.Tables.{first-cells}
 use Rattle.star.specs.declared.refusals.Refusal.{Refusal}
 use Rattle.star.specs.declared.refusals.Refusal.the-variants.{Nodes, Slots, Rule, DemandAbove}
 use Rattle.star.specs.Refusals.{outside, firstAbove}
 use Rattle.star.specs.Lines.{total, wholeFrame}
 use Rattle.star.proofs.LineLaws.{total-ext}
-use Rattle.star.proofs.RefusalLaws.{neither, in-its-range, within-range}
-use Rattle.least.specs.Least.{keptFrom}
-use Rattle.least.proofs.Keeping.{refused-total}
-use Rattle.planner.specs.Plans.{Plan}
+use Rattle.star.proofs.RefusalLaws.{in-its-range, inside, within-range, none-above}
+use Rattle.planner.proofs.NeededLaws.{least-total}
 use Rattle.number_list.specs.Input.{listOf}
 use Rattle.matrix_text.specs.Text.{decimal, joinTo, headText, totalsText, markAfter, cellText, rowText, rowsText, planText}
 use Rattle.matrix_text.specs.Outcomes.{Outcome, BadInput, Refuses, Plans, orElse, judge, judgeList, outcome, outcomeText, Prints, Answered}
@@ -42,25 +39,6 @@ module _ (n : ℕ) (k₁ k₂ : List ℕ) (same : (i j : ℕ) → i < n → j < 
   text-ext : (l rule : ℕ) (d : List ℕ) → outcomeText (Plans n l rule d) k₁ ≡ outcomeText (Plans n l rule d) k₂
   unfolding outcomeText planText
   text-ext l rule d = rw (total-ext n k₁ k₂ same, rows-ext) refl
-
--- matrices whose first cells are the same have the same cells
-first-cells : (n : ℕ) (k₁ k₂ : List ℕ) → take (n * n) k₁ ≡ take (n * n) k₂ → (i j : ℕ) → i < n → j < n → cell n k₁ i j ≡ cell n k₂ i j
-first-cells n k₁ k₂ e i j hi hj = take-cell n k₁ (take (n * n) k₂) e i j hi hj ∙ sym (take-cell n k₂ (take (n * n) k₂) refl i j hi hj)
-
--- ---- under the least rule kept has one total
-one-total : {n l : ℕ} {d k₁ a₁ s₁ k₂ a₂ s₂ : List ℕ} → Plan n l 1 (wholeFrame n l) d k₁ a₁ s₁ → Plan n l 1 (wholeFrame n l) d k₂ a₂ s₂ → total n k₁ ≡ total n k₂
-one-total {n} {l} {d} {k₁} {a₁} {s₁} {k₂} {a₂} p q =
-    let g = p .least refl .0 in
-    let h = q .least refl .0 in
-    omega (
-      arith,
-      total-ext n k₁ (keptFrom n (wholeFrame n l) d a₁) (take-cell n k₁ (keptFrom n (wholeFrame n l) d a₁) (p .least refl .1)),
-      total-ext n k₂ (keptFrom n (wholeFrame n l) d a₂) (take-cell n k₂ (keptFrom n (wholeFrame n l) d a₂) (q .least refl .1)),
-      refused-total g,
-      refused-total h,
-      g .most a₂ (h .withdrawn),
-      h .most a₁ (g .withdrawn),
-    )
 
 -- ---- texts of one outcome
 text-of : {o o' : Outcome} {t : List ℕ} → o ≡ o' → (p : Prints o t) → t ≡ outcomeText o' (p .kept)
@@ -118,7 +96,7 @@ module _ (input out out₁ out₂ : List ℕ) (r₁ r₂ : ℕ) (a : Answered in
           keeps = k;
           refuses = total n d - k;
           one = least-text n l d k e (a .prints) refl;
-          other = least-text n l d k e (b .prints) (one-total (b .prints .planned n l 1 d e) (a .prints .planned n l 1 d e));
+          other = least-text n l d k e (b .prints) (least-total (λ i j hi hj. refl) (b .prints .planned n l 1 d e) (a .prints .planned n l 1 d e));
           rest = λ m h g. past a m h ∙ sym (past b m g);
         };
   }
@@ -127,16 +105,12 @@ module _ (input out out₁ out₂ : List ℕ) (r₁ r₂ : ℕ) (a : Answered in
 text-planned : (input : List ℕ) (n l rule : ℕ) (d : List ℕ) → InOrder input n l rule d → outcome input ≡ Plans n l rule d
 unfolding outcome judgeList judge firstAbove
 text-planned input n l rule d h =
-    let none-above = first-none (λ p. ltb 65535 (getD d p 0)) (n * n) (λ p lt. le-ltb 65535 (getD d p 0) (h .demands p lt)) in
     left BadInput (le-ltb 65536 (length input) (h .short))
     (ap judgeList (h .listed)
-    ∙ left (Refuses Nodes) (in-range 1 64 n (h .nodes))
-    (left (Refuses Slots) (in-range 1 1024 l (h .slots))
+    ∙ left (Refuses Nodes) (inside 1 64 n (h .nodes .0) (h .nodes .1))
+    (left (Refuses Slots) (inside 1 1024 l (h .slots .0) (h .slots .1))
     (left (Refuses Rule) (le-ltb 1 rule (h .known-rule))
-    (rw (eq-eqb (length d) (n * n) (h .count)) (left (Refuses (DemandAbove (firstAbove n d))) (le-ltb (firstAbove n d) (n * n) (omega (arith, none-above))) refl)))))
-  where
-    in-range : (low high x : ℕ) → (low ≤ x) × (x ≤ high) → outside low high x ≡ false
-    in-range low high x h = neither _ _ (le-ltb x low (h .0)) (le-ltb high x (h .1))
+    (rw (eq-eqb (length d) (n * n) (h .count)) (left (Refuses (DemandAbove (firstAbove n d))) (none-above n d (h .demands)) refl)))))
 
 -- ---- and no other
 module _ (n l rule : ℕ) (d : List ℕ) where

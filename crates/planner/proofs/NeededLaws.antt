@@ -3,20 +3,20 @@ use Prim.Native.Nat.{ℕ, _-_, _*_, _/_, _%_, _<_}
 use native.Mathlib.Omega.{arith}
 use mathlib.Core.Path.{_≡_, refl, sym, _∙_, ap, ap₂}
 use mathlib.Core.List.{List}
-use lib.ListN.{take, replicate}
+use lib.ListN.{replicate}
 use Rattle.sums.specs.Tables.{cell, square}
 use Rattle.sums.proofs.Tables.{tab-ext, place-split, take-cell}
+use Rattle.star.specs.Lines.{total}
+use Rattle.star.proofs.LineLaws.{total-ext}
 use Rattle.star.proofs.AlikeLaws.{excess-ext, critical-ext}
 use Rattle.fair.specs.Fair.{fairKept, steps, uncut}
 use Rattle.least.specs.Least.{Withdrawn, Greatest, left, keptCell, keptFrom}
+use Rattle.least.proofs.Keeping.{refused-total}
+use Rattle.planner.specs.Plans.{Plan}
 
 rule-ext : (n : ℕ) (f g : ℕ → ℕ → ℕ) → ((i j : ℕ) → i < n → j < n → f i j ≡ g i j) → square n f ≡ square n g
 unfolding square
 rule-ext n f g same = tab-ext (n * n) _ _ (λ p h. let s = place-split n p h in same (p / n) (p % n) (s .0) (s .1 .0))
-
--- tables whose first cells are the same agree at each pair
-pub first-cells : (n : ℕ) (x y : List ℕ) → take (n * n) x ≡ take (n * n) y → (i j : ℕ) → i < n → j < n → cell n x i j ≡ cell n y i j
-first-cells n x y e i j hi hj = take-cell n x (take (n * n) y) e i j hi hj ∙ sym (take-cell n y (take (n * n) y) refl i j hi hj)
 
 module _ (n : ℕ) (cap d e : List ℕ) (same : (i j : ℕ) → i < n → j < n → cell n d i j ≡ cell n e i j) where
   pub fair-ext : fairKept n cap d ≡ fairKept n cap e
@@ -39,3 +39,20 @@ greatest-ext n cap d e a same g = record {
   withdrawn = withdrawn-ext n cap d e a same (g .withdrawn);
   most = λ b w. g .most b (withdrawn-ext n cap e d b (λ i j hi hj. sym (same i j hi hj)) w);
 }
+
+-- under the least rule two plans keep one total: greatest matrices have one total, and kept and A together make up the excesses
+pub least-total : {n l : ℕ} {cap d e k₁ a₁ s₁ k₂ a₂ s₂ : List ℕ} → ((i j : ℕ) → i < n → j < n → cell n d i j ≡ cell n e i j) →
+    Plan n l 1 cap d k₁ a₁ s₁ → Plan n l 1 cap e k₂ a₂ s₂ → total n k₁ ≡ total n k₂
+least-total {n} {l} {cap} {d} {e} {k₁} {a₁} {s₁} {k₂} {a₂} same p q =
+    let g = greatest-ext n cap d e a₁ same (p .least refl .0) in
+    let h = q .least refl .0 in
+    let kept = p .least refl .1 ∙ kept-ext n cap d e same a₁ a₁ (λ i j hi hj. refl) in
+    omega (
+      arith,
+      total-ext n k₁ (keptFrom n cap e a₁) (take-cell n k₁ (keptFrom n cap e a₁) kept),
+      total-ext n k₂ (keptFrom n cap e a₂) (take-cell n k₂ (keptFrom n cap e a₂) (q .least refl .1)),
+      refused-total g,
+      refused-total h,
+      g .most a₂ (h .withdrawn),
+      h .most a₁ (g .withdrawn),
+    )

@@ -11,7 +11,7 @@ use Rattle.sums.specs.Sums.{sumTo, hit}
 use Rattle.sums.specs.Tables.{cell, tab, square}
 use Rattle.sums.proofs.Cases.{by-eq}
 use Rattle.sums.proofs.Sums.{sum-ext, sum-add}
-use Rattle.sums.proofs.Tables.{take-cell}
+use Rattle.sums.proofs.Tables.{take-cell, first-cells}
 use Rattle.star.specs.declared.refusals.Verdict.the-variants as verdict
 use Rattle.star.specs.Tables.{Alike}
 use Rattle.star.specs.Lines.{total, wholeFrame, lineSum, onLine, sourceOn, destinationOn, Admissible}
@@ -21,7 +21,7 @@ use Rattle.star.proofs.AlikeLaws.{alike-cell, alike-above, both-long}
 use Rattle.star.proofs.LineLaws.{line-ext, total-ext}
 use Rattle.fair.specs.Fair.{fairKept, steps, step, uncut, taken, smaller, exceeds, numerator, modifiedSum, unmodifiedSum, modified, cutLine, cutCell}
 use Rattle.fair.proofs.Steps.{fair-admissible}
-use Rattle.least.specs.Least.{Greatest, keptFrom}
+use Rattle.least.specs.Least.{keptFrom}
 use Rattle.least.proofs.Keeping.{kept-admissible, refused-total}
 use Rattle.least.proofs.LeastIsLeast.{least-is-least-whole}
 use Rattle.planner.specs.declared.answers.Answer.{Answer}
@@ -29,7 +29,7 @@ use Rattle.planner.specs.declared.answers.Answer.the-variants.{Planned, 
 use Rattle.planner.specs.Plans.{verdictOf, keptTotal, refusedTotal, planVerdict, Plan, Wrote, PlanResult}
 use Rattle.planner.specs.Theorems.{AcceptedPlan, LeastPlan, Agree, AgreeAsNeeded, WrongPlanners, PlanTheorems}
 use Rattle.planner.proofs.PlanLaws.{total-below, plan-below}
-use Rattle.planner.proofs.NeededLaws.{first-cells, fair-ext, kept-ext, greatest-ext}
+use Rattle.planner.proofs.NeededLaws.{fair-ext, kept-ext, least-total}
 
 -- ---- an accepted call has passed the check of its rule
 known-rule : (n l rule : ℕ) (d : List ℕ) (k a s : ℕ) → planVerdict n l rule d k a s ≡ verdict.Accepted → rule ≤ 1
@@ -86,10 +86,6 @@ plan-least n l d k a s k' a' s' r result ok =
 glue : (m : ℕ) (x y : List ℕ) → take m x ≡ take m y → drop m x ≡ drop m y → x ≡ y
 glue m x y e f = sym (take-append-drop m x) ∙ ap₂ _++_ e f ∙ take-append-drop m y
 
--- two greatest matrices have one total, and so do the matrices kept
-one-total : (n : ℕ) (cap d a b : List ℕ) → Greatest n cap d a → Greatest n cap d b → total n (keptFrom n cap d a) ≡ total n (keptFrom n cap d b)
-one-total n cap d a b g h = omega (arith, refused-total g, refused-total h, g .most b (h .withdrawn), h .most a (g .withdrawn))
-
 -- two results on demands that agree at each pair, with the same verdict
 module _ (n l rule : ℕ) (d e k a s k₁ a₁ s₁ x b t k₂ a₂ s₂ : List ℕ) (same : (i j : ℕ) → i < n → j < n → cell n d i j ≡ cell n e i j) where
   module _ (r₁ r₂ : Answer) (x₁ : PlanResult n l rule d k a s k₁ a₁ s₁ r₁) (x₂ : PlanResult n l rule e x b t k₂ a₂ s₂ r₂) (verdicts : verdictOf r₁ ≡ verdictOf r₂)
@@ -112,17 +108,7 @@ module _ (n l rule : ℕ) (d e k a s k₁ a₁ s₁ x b t k₂ a₂ s₂ : List 
         (λ z. w₁ .kept-total ∙ total-ext n k₁ k₂ (first-cells n k₁ k₂ (fair-same z .0)) ∙ sym (w₂ .kept-total))
         (λ ne.
         let u : rule ≡ 1 = omega (arith, known-rule n l rule d (length k) (length a) (length s) (sym (x₁ .answer) ∙ ok)) in
-        let g = w₁ .plan .least u in
-        let h = w₂ .plan .least u in
-        omega (
-          arith,
-          w₁ .kept-total,
-          w₂ .kept-total,
-          total-ext n k₁ (keptFrom n (wholeFrame n l) d a₁) (take-cell n k₁ (keptFrom n (wholeFrame n l) d a₁) (g .1)),
-          total-ext n k₂ (keptFrom n (wholeFrame n l) e a₂) (take-cell n k₂ (keptFrom n (wholeFrame n l) e a₂) (h .1)),
-          one-total n (wholeFrame n l) e a₁ a₂ (greatest-ext n (wholeFrame n l) d e a₁ same (g .0)) (h .0),
-          ap (total n) (kept-ext n (wholeFrame n l) d e same a₁ a₁ (λ i j hi hj. refl)),
-        ))
+        w₁ .kept-total ∙ least-total same (rw u at (w₁ .plan)) (rw u at (w₂ .plan)) ∙ sym (w₂ .kept-total))
 
     refused-same : refusedTotal r₁ ≡ refusedTotal r₂
     refused-same = omega (arith, kept-same, w₁ .kept-total, w₂ .kept-total, w₁ .refused-total, w₂ .refused-total, total-ext n d e same)

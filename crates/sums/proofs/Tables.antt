@@ -148,6 +148,10 @@ pub take-cell : (n : ℕ) (t new : List ℕ) → take (n * n) t ≡ new → (i j
 unfolding cell
 take-cell n t new e i j hi hj = sym (getD-take (n * n) t (i * n + j) 0 (cell-lt n i j hi hj)) ∙ ap (λ x. getD x (i * n + j) 0) e
 
+-- tables whose first n * n cells are the same have the same pairs
+pub first-cells : (n : ℕ) (x y : List ℕ) → take (n * n) x ≡ take (n * n) y → (i j : ℕ) → i < n → j < n → cell n x i j ≡ cell n y i j
+first-cells n x y e i j hi hj = take-cell n x (take (n * n) y) e i j hi hj ∙ sym (take-cell n y (take (n * n) y) refl i j hi hj)
+
 -- the first cells of a table that holds one number throughout
 pub take-replicate : {A : Type 0} (m k : ℕ) (x : A) → m ≤ k → take m (replicate k x) ≡ replicate m x
 take-replicate zero k x h = refl
