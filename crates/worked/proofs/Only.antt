@@ -82,8 +82,8 @@ module _ (n : ℕ) (cap d : List ℕ) where
     counted-twice i j p q =
         let rows = one-apart n i (λ u. sumTo n (λ v. cell n b u v)) p in
         let others =
-              sum-mono n (λ u. gate (not (eqb u i)) (sumTo n (λ v. cell n b u v))) (λ u. gate (not (eqb u i)) (cell n b u j) + gate (not (eqb u i)) (without n j (λ v. room u v)))
-              (λ u h. omega (arith, gate-mono (not (eqb u i)) _ _ (row-apart j u q h), gate-add (not (eqb u i)) (cell n b u j) (without n j (λ v. room u v)))) in
+        sum-mono n (λ u. gate (not (eqb u i)) (sumTo n (λ v. cell n b u v))) (λ u. gate (not (eqb u i)) (cell n b u j) + gate (not (eqb u i)) (without n j (λ v. room u v)))
+        (λ u h. omega (arith, gate-mono (not (eqb u i)) _ _ (row-apart j u q h), gate-add (not (eqb u i)) (cell n b u j) (without n j (λ v. room u v)))) in
         let parts = sum-add n (λ u. gate (not (eqb u i)) (cell n b u j)) (λ u. gate (not (eqb u i)) (without n j (λ v. room u v))) in
         let column = one-apart n i (λ u. cell n b u j) p in
         omega (arith, rows, others, parts, column, row-sum n b i p, column-sum n b j, w .lines i (omega arith), w .lines (n + j) (omega arith))
