@@ -1,4 +1,5 @@
--- The fourteen lines hold. The lines of one plan by computation, with marks for each A; a demand of nothing for every N and L; the run as it is played. Assumes nothing.
+-- The fourteen lines hold. The lines of one plan by computation, with marks for each A, and a bound for each cell where A is the only one; a demand of
+-- nothing for every N and L; the run as it is played. Assumes nothing.
 use mathlib.Core.Path.{refl}
 use mathlib.Core.List.{[], _∷_}
 use Rattle.sums.specs.Sums.{sumTo}

@@ -6,17 +6,16 @@ use native.Mathlib.Omega.{arith}
 use mathlib.Core.Path.{_≡_, refl, sym, _∙_, ap}
 use mathlib.Core.Bool.{Bool, true, false, not}
 use mathlib.Core.List.{List}
-use lib.ListN.{take}
 use lib.Dec.{leb, eqb}
 use borrow.Author.Tests.{leb-true, eq-eqb, ne-eqb}
 use Rattle.sums.specs.Sums.{sumTo, gate}
 use Rattle.sums.specs.Searches.{allBelow}
 use Rattle.sums.specs.Tables.{cell, square}
-use Rattle.sums.proofs.Sums.{sum-add, sum-mono, sum-update}
+use Rattle.sums.proofs.Sums.{sum-ext, sum-add, sum-mono, sum-update}
 use Rattle.sums.proofs.Gates.{gate-mono}
 use Rattle.sums.proofs.Searches.{all-at}
 use Rattle.sums.proofs.Tables.{square-ext}
-use Rattle.star.specs.Lines.{total, lineSum, excess, wholeFrame}
+use Rattle.star.specs.Lines.{total, excess, wholeFrame}
 use Rattle.star.proofs.LineLaws.{row-sum, column-sum, cell-in-row, cell-in-column}
 use Rattle.least.specs.Least.{Withdrawn, Greatest, left, keptFrom, keptCell}
 use Rattle.least.proofs.Remains.{length-left, left-cell}
@@ -27,27 +26,34 @@ use Rattle.worked.specs.Worked.{LeastLine, OnlyLeastLine}
 abbrev without : (n a : ℕ) (f : ℕ → ℕ) → ℕ
 without n a f = sumTo n (λ k. gate (not (eqb k a)) (f k))
 
-one-apart : (n a : ℕ) (f : ℕ → ℕ) → a < n → sumTo n f ≡ f a + without n a f
-one-apart n a f h =
-    let gone : gate (not (eqb a a)) (f a) ≡ 0 = ap (λ b. gate (not b) (f a)) (eq-eqb a a refl) in
-    omega (arith, gone, sum-update n f (λ k. gate (not (eqb k a)) (f k)) a h (λ k p ne. ap (λ b. gate (not b) (f k)) (ne-eqb k a ne)))
+module _ (n a : ℕ) where
+  one-apart : (f : ℕ → ℕ) → a < n → sumTo n f ≡ f a + without n a f
+  one-apart f h =
+      let gone : gate (not (eqb a a)) (f a) ≡ 0 = ap (λ b. gate (not b) (f a)) (eq-eqb a a refl) in
+      omega (arith, gone, sum-update n f (λ k. gate (not (eqb k a)) (f k)) a h (λ k p ne. ap (λ b. gate (not b) (f k)) (ne-eqb k a ne)))
+
+  module _ (f g : ℕ → ℕ) where
+    without-mono : ((k : ℕ) → k < n → f k ≤ g k) → without n a f ≤ without n a g
+    without-mono below = sum-mono n _ _ (λ k h. gate-mono (not (eqb k a)) (f k) (g k) (below k h))
+
+    without-add : without n a (λ k. f k + g k) ≡ without n a f + without n a g
+    without-add = sum-ext n _ _ (λ k h. gate-add (not (eqb k a)) (f k) (g k)) ∙ sum-add n _ _
+      where
+        gate-add : (b : Bool) (x y : ℕ) → gate b (x + y) ≡ gate b x + gate b y
+        gate-add true x y = refl
+        gate-add false x y = refl
 
 -- terms that are nowhere above others, and whose sum is not below theirs, are equal to them
 sum-same : (n : ℕ) (f g : ℕ → ℕ) → ((k : ℕ) → k < n → f k ≤ g k) → sumTo n g ≤ sumTo n f → (k : ℕ) → k < n → f k ≡ g k
-sum-same n f g below e k h =
-    omega (arith, below k h, one-apart n k f h, one-apart n k g h, sum-mono n (λ i. gate (not (eqb i k)) (f i)) (λ i. gate (not (eqb i k)) (g i)) (λ i p. gate-mono (not (eqb i k)) (f i) (g i) (below i p)))
-
-gate-add : (b : Bool) (x y : ℕ) → gate b (x + y) ≡ gate b x + gate b y
-gate-add true x y = refl
-gate-add false x y = refl
+sum-same n f g below e k h = omega (arith, below k h, one-apart n k f h, one-apart n k g h, without-mono n k f g below)
 
 -- matrices of which one is nowhere above the other, and whose total is not below the other's, have the same cells
 same-cells : (n : ℕ) (a b : List ℕ) → ((i j : ℕ) → i < n → j < n → cell n b i j ≤ cell n a i j) → total n a ≤ total n b →
     (i j : ℕ) → i < n → j < n → cell n b i j ≡ cell n a i j
 unfolding total
 same-cells n a b below e i j p q =
-    let rows = sum-same n (λ i. sumTo n (λ j. cell n b i j)) (λ i. sumTo n (λ j. cell n a i j)) (λ i p. sum-mono n _ _ (λ j q. below i j p q)) e i p in
-    sum-same n (λ j. cell n b i j) (λ j. cell n a i j) (λ j q. below i j p q) (omega (arith, rows)) j q
+    let row = sum-same n (λ u. sumTo n (λ v. cell n b u v)) (λ u. sumTo n (λ v. cell n a u v)) (λ u h. sum-mono n _ _ (λ v. below u v h)) e i p in
+    sum-same n (λ v. cell n b i v) (λ v. cell n a i v) (λ v. below i v p) (omega (arith, row)) j q
 
 -- ---- the bound of a cell
 module _ (n : ℕ) (cap d : List ℕ) where
@@ -57,7 +63,7 @@ module _ (n : ℕ) (cap d : List ℕ) where
 
   -- what the cells off row i and off column j have room for
   unfoldable pub offBoth : (i j : ℕ) → ℕ
-  offBoth i j = without n i (λ u. without n j (λ v. room u v))
+  offBoth i j = without n i (λ u. without n j (room u))
 
   -- the bound of a cell in a withdrawn matrix with a total of at least `most`
   unfoldable pub bound : (most i j : ℕ) → ℕ
@@ -66,25 +72,20 @@ module _ (n : ℕ) (cap d : List ℕ) where
   module _ (b : List ℕ) (w : Withdrawn n cap d b) where
     in-room : (i j : ℕ) → i < n → j < n → cell n b i j ≤ room i j
     unfolding room
-    in-room i j p q = omega (arith, w .below i j p q, cell-in-row n b i j p q, w .lines i (omega arith), cell-in-column n b i j p, w .lines (n + j) (omega arith))
+    in-room i j p q =
+        omega (arith, w .below i j p q, cell-in-row n b i j p q, w .lines i (omega arith), cell-in-column n b i j p, w .lines (n + j) (omega arith))
 
-    -- a row, its cell in column j apart
-    row-apart : (j u : ℕ) → j < n → u < n → sumTo n (λ v. cell n b u v) ≤ cell n b u j + without n j (λ v. room u v)
-    row-apart j u q p =
-        omega (
-          arith,
-          one-apart n j (λ v. cell n b u v) q,
-          sum-mono n (λ v. gate (not (eqb v j)) (cell n b u v)) (λ v. gate (not (eqb v j)) (room u v)) (λ v h. gate-mono (not (eqb v j)) _ _ (in-room u v p h)),
-        )
+    -- a row is at most its cell in column j and the room of its other cells
+    row-apart : (j u : ℕ) → j < n → u < n → sumTo n (λ v. cell n b u v) ≤ cell n b u j + without n j (room u)
+    row-apart j u q p = omega (arith, one-apart n j (λ v. cell n b u v) q, without-mono n j (λ v. cell n b u v) (room u) (λ v. in-room u v p))
 
+    -- row i whole, and every other row as above: its cells in column j are that column but for cell (i,j)
     counted-twice : (i j : ℕ) → i < n → j < n → total n b + cell n b i j ≤ excess n cap d i + excess n cap d (n + j) + offBoth i j
     unfolding total offBoth
     counted-twice i j p q =
         let rows = one-apart n i (λ u. sumTo n (λ v. cell n b u v)) p in
-        let others =
-        sum-mono n (λ u. gate (not (eqb u i)) (sumTo n (λ v. cell n b u v))) (λ u. gate (not (eqb u i)) (cell n b u j) + gate (not (eqb u i)) (without n j (λ v. room u v)))
-        (λ u h. omega (arith, gate-mono (not (eqb u i)) _ _ (row-apart j u q h), gate-add (not (eqb u i)) (cell n b u j) (without n j (λ v. room u v)))) in
-        let parts = sum-add n (λ u. gate (not (eqb u i)) (cell n b u j)) (λ u. gate (not (eqb u i)) (without n j (λ v. room u v))) in
+        let others = without-mono n i (λ u. sumTo n (λ v. cell n b u v)) (λ u. cell n b u j + without n j (room u)) (λ u. row-apart j u q) in
+        let parts = without-add n i (λ u. cell n b u j) (λ u. without n j (room u)) in
         let column = one-apart n i (λ u. cell n b u j) p in
         omega (arith, rows, others, parts, column, row-sum n b i p, column-sum n b j, w .lines i (omega arith), w .lines (n + j) (omega arith))
 
@@ -101,26 +102,34 @@ module _ (n : ℕ) (cap d : List ℕ) where
 
   bound-below : (a : List ℕ) → only? a ≡ true → (i j : ℕ) → i < n → j < n → bound (total n a) i j ≤ cell n a i j
   unfolding only? rowOnly?
-  bound-below a e i j p q = leb-true (bound (total n a) i j) (cell n a i j) (all-at n (λ j. leb (bound (total n a) i j) (cell n a i j)) (all-at n (rowOnly? a) e i p) j q)
+  bound-below a e i j p q =
+      leb-true (bound (total n a) i j) (cell n a i j) (all-at n (λ j. leb (bound (total n a) i j) (cell n a i j)) (all-at n (rowOnly? a) e i p) j q)
 
-  pub only-greatest : (a b : List ℕ) → only? a ≡ true → Greatest n cap d a → Greatest n cap d b → (i j : ℕ) → i < n → j < n → cell n b i j ≡ cell n a i j
+  pub only-greatest : (a b : List ℕ) → only? a ≡ true → Greatest n cap d a → Greatest n cap d b →
+      (i j : ℕ) → i < n → j < n → cell n b i j ≡ cell n a i j
   only-greatest a b e g h =
       let most = h .most a (g .withdrawn) in
       same-cells n a b (λ i j p q. omega (arith, bounded b (h .withdrawn) (total n a) most i j p q, bound-below a e i j p q)) most
 
 -- ---- what is kept
--- kept reads A through its cells alone
-same-kept : (n : ℕ) (cap d a b : List ℕ) → ((i j : ℕ) → i < n → j < n → cell n b i j ≡ cell n a i j) → keptFrom n cap d b ≡ keptFrom n cap d a
-unfolding keptFrom
-same-kept n cap d a b same =
-    ap (λ e. square n (keptCell n cap e)) (square-ext n (left n d b) (left n d a) (length-left n d b) (length-left n d a) (λ i j p q. left-cell n d b i j p q ∙ ap (λ x. cell n d i j - x) (same i j p q) ∙ sym (left-cell n d a i j p q)))
+-- E and what is kept of it read A through its cells alone
+module _ (n : ℕ) (cap d a b : List ℕ) (same : (i j : ℕ) → i < n → j < n → cell n b i j ≡ cell n a i j) where
+  same-left : left n d b ≡ left n d a
+  same-left =
+      square-ext n (left n d b) (left n d a) (length-left n d b) (length-left n d a)
+      (λ i j p q. left-cell n d b i j p q ∙ ap (λ x. cell n d i j - x) (same i j p q) ∙ sym (left-cell n d a i j p q))
+
+  same-kept : keptFrom n cap d b ≡ keptFrom n cap d a
+  unfolding keptFrom
+  same-kept = ap (λ e. square n (keptCell n cap e)) same-left
 
 -- ---- a line
-pub only-line : (n l : ℕ) (d a kept : List ℕ) (refused : ℕ) → LeastLine n l d a kept refused → only? n (wholeFrame n l) d a ≡ true → OnlyLeastLine n l d a kept refused
+pub only-line : (n l : ℕ) (d a kept : List ℕ) (refused : ℕ) → LeastLine n l d a kept refused → only? n (wholeFrame n l) d a ≡ true →
+    OnlyLeastLine n l d a kept refused
 only-line n l d a kept refused line e = record {
   line = line;
   only = λ b h. only-greatest n (wholeFrame n l) d a b e (line .withdraws) h;
   plans = λ k w s plan.
-      let by-rule = plan .least refl in
-      by-rule .1 ∙ same-kept n (wholeFrame n l) d a w (only-greatest n (wholeFrame n l) d a w e (line .withdraws) (by-rule .0)) ∙ line .keeps;
+      let (greatest, keeps) = plan .least refl in
+      keeps ∙ same-kept n (wholeFrame n l) d a w (only-greatest n (wholeFrame n l) d a w e (line .withdraws) greatest) ∙ line .keeps;
 }
