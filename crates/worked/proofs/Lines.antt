@@ -20,20 +20,20 @@ pub worked : WorkedLines
 unfolding sumTo cell tab square wholeFrame lineSum onLine sourceOn destinationOn total slack excess fairKept steps step uncut taken smaller exceeds numerator modifiedSum unmodifiedSum modified cutLine cutCell cut allBelow below? lines? feasible? keptFrom keptCell left longer share remainder missing before rank shared room offBoth bound rowOnly? only?
 worked = record {
   a-fair = record { keeps = refl; refuses = refl };
-  a-least = only-line _ _ _ _ _ _ (record { withdraws = by-marks _ _ _ _ (0 ∷ 0 ∷ []) refl refl; keeps = refl; refuses = refl }) refl;
+  a-least = only-line (record { withdraws = by-marks _ _ _ _ (0 ∷ 0 ∷ []) refl refl; keeps = refl; refuses = refl }) refl;
   b-fair = record { keeps = refl; refuses = refl };
-  b-least = only-line _ _ _ _ _ _ (record { withdraws = by-marks _ _ _ _ (0 ∷ 0 ∷ []) refl refl; keeps = refl; refuses = refl }) refl;
-  c = only-line _ _ _ _ _ _ (record { withdraws = by-marks _ _ _ _ (1 ∷ 0 ∷ 1 ∷ 1 ∷ []) refl refl; keeps = refl; refuses = refl }) refl;
+  b-least = only-line (record { withdraws = by-marks _ _ _ _ (0 ∷ 0 ∷ []) refl refl; keeps = refl; refuses = refl }) refl;
+  c = only-line (record { withdraws = by-marks _ _ _ _ (1 ∷ 0 ∷ 1 ∷ 1 ∷ []) refl refl; keeps = refl; refuses = refl }) refl;
   d = record { keeps = refl; refuses = refl };
-  e = only-line _ _ _ _ _ _ (record { withdraws = by-marks _ _ _ _ (0 ∷ 0 ∷ 0 ∷ 0 ∷ []) refl refl; keeps = refl; refuses = refl }) refl;
+  e = only-line (record { withdraws = by-marks _ _ _ _ (0 ∷ 0 ∷ 0 ∷ 0 ∷ []) refl refl; keeps = refl; refuses = refl }) refl;
   f = record { keeps = refl; refuses = refl };
-  g = only-line _ _ _ _ _ _ (record { withdraws = by-marks _ _ _ _ (1 ∷ 0 ∷ 0 ∷ 1 ∷ 1 ∷ 1 ∷ []) refl refl; keeps = refl; refuses = refl }) refl;
+  g = only-line (record { withdraws = by-marks _ _ _ _ (1 ∷ 0 ∷ 0 ∷ 1 ∷ 1 ∷ 1 ∷ []) refl refl; keeps = refl; refuses = refl }) refl;
   h = record { keeps = refl; refuses = refl };
-  i = only-line _ _ _ _ _ _ (record { withdraws = by-marks _ _ _ _ (0 ∷ 0 ∷ 0 ∷ 0 ∷ 0 ∷ 0 ∷ []) refl refl; keeps = refl; refuses = refl }) refl;
+  i = only-line (record { withdraws = by-marks _ _ _ _ (0 ∷ 0 ∷ 0 ∷ 0 ∷ 0 ∷ 0 ∷ []) refl refl; keeps = refl; refuses = refl }) refl;
   j = record { keeps = refl; refuses = refl };
   k-level = record { withdraws = by-marks _ _ _ _ (0 ∷ 0 ∷ 0 ∷ 0 ∷ []) refl refl; keeps = refl; refuses = refl };
   k-crossed = record { withdraws = by-marks _ _ _ _ (0 ∷ 0 ∷ 0 ∷ 0 ∷ []) refl refl; keeps = refl; refuses = refl };
-  l = only-line _ _ _ _ _ _ (record { withdraws = by-marks _ _ _ _ (0 ∷ 0 ∷ []) refl refl; keeps = refl; refuses = refl }) refl;
+  l = only-line (record { withdraws = by-marks _ _ _ _ (0 ∷ 0 ∷ []) refl refl; keeps = refl; refuses = refl }) refl;
   m = nothing;
   n = one-node;
 }

@@ -124,9 +124,9 @@ module _ (n : ℕ) (cap d a b : List ℕ) (same : (i j : ℕ) → i < n → j < 
   same-kept = ap (λ e. square n (keptCell n cap e)) same-left
 
 -- ---- a line
-pub only-line : (n l : ℕ) (d a kept : List ℕ) (refused : ℕ) → LeastLine n l d a kept refused → only? n (wholeFrame n l) d a ≡ true →
+pub only-line : {n l : ℕ} {d a kept : List ℕ} {refused : ℕ} → LeastLine n l d a kept refused → only? n (wholeFrame n l) d a ≡ true →
     OnlyLeastLine n l d a kept refused
-only-line n l d a kept refused line e = record {
+only-line {n = n} {l = l} {d = d} {a = a} line e = record {
   line = line;
   only = λ b h. only-greatest n (wholeFrame n l) d a b e (line .withdraws) h;
   plans = λ k w s plan.
