@@ -2,17 +2,23 @@
 -- changed together with the code unnoticed. Assumes nothing.
 use mathlib.Core.Path.{_≡_, refl}
 use mathlib.Core.Bool.{true, false}
-use mathlib.Core.List.{[], _∷_}
+use mathlib.Core.List.{[], _∷_, map}
 use Rattle.sums.specs.Searches.{firstBelow, firstFrom}
 use Rattle.books.specs.Books.{agree, booksAgree, firstDisagreeing}
 
 -- ---- the books of a pair: B, posts, waiting, posted, sent, dropped
 -- Waiting is at most B: equal to B and one above, for the smallest B, one between, and the largest.
-waiting-at-most-limit : agree 1 9 1 1 0 0 ∷ agree 1 9 2 2 0 0 ∷ agree 6 9 6 6 0 0 ∷ agree 6 9 7 7 0 0 ∷ agree 65535 9 65535 65535 0 0 ∷ agree 65535 9 65536 65536 0 0 ∷ [] ≡ true ∷ false ∷ true ∷ false ∷ true ∷ false ∷ []
-waiting-at-most-limit = refl
+smallest-limit : map (λ x. agree 1 9 x x 0 0) (1 ∷ 2 ∷ []) ≡ true ∷ false ∷ []
+smallest-limit = refl
 
--- Posted equals waiting plus sent plus dropped: one less, equal, and one more.
-posted-is-sum : agree 6 9 1 12 8 4 ∷ agree 6 9 1 13 8 4 ∷ agree 6 9 1 14 8 4 ∷ [] ≡ false ∷ true ∷ false ∷ []
+some-limit : map (λ x. agree 6 9 x x 0 0) (6 ∷ 7 ∷ []) ≡ true ∷ false ∷ []
+some-limit = refl
+
+largest-limit : map (λ x. agree 65535 9 x x 0 0) (65535 ∷ 65536 ∷ []) ≡ true ∷ false ∷ []
+largest-limit = refl
+
+-- Posted equals waiting plus sent plus dropped: one less, equal (case n), and one more.
+posted-is-sum : map (λ x. agree 6 2 1 x 8 4) (12 ∷ 13 ∷ 14 ∷ []) ≡ false ∷ true ∷ false ∷ []
 posted-is-sum = refl
 
 -- In exact arithmetic: 2^63 and 2^63 make 2^64, which 64 bits would take for 0.
@@ -20,8 +26,14 @@ posted-is-exact : agree 6 9 0 0 9223372036854775808 9223372036854775808 ≡ fals
 posted-is-exact = refl
 
 -- Posted is at most 65,535 × posts: equal and one above, for no post, one post, and 1,000,000.
-posted-at-most-posts : agree 6 0 0 0 0 0 ∷ agree 6 0 0 1 1 0 ∷ agree 6 1 0 65535 65535 0 ∷ agree 6 1 0 65536 65536 0 ∷ agree 6 1000000 0 65535000000 0 65535000000 ∷ agree 6 1000000 0 65535000001 0 65535000001 ∷ [] ≡ true ∷ false ∷ true ∷ false ∷ true ∷ false ∷ []
-posted-at-most-posts = refl
+no-post : map (λ x. agree 6 0 0 x x 0) (0 ∷ 1 ∷ []) ≡ true ∷ false ∷ []
+no-post = refl
+
+one-post : map (λ x. agree 6 1 0 x x 0) (65535 ∷ 65536 ∷ []) ≡ true ∷ false ∷ []
+one-post = refl
+
+all-posts : map (λ x. agree 6 1000000 0 x 0 x) (65535000000 ∷ 65535000001 ∷ []) ≡ true ∷ false ∷ []
+all-posts = refl
 
 -- ---- the place: the first such cell in row order, here with B 6 and one post
 -- four pairs whose books agree
@@ -44,6 +56,6 @@ unfolding firstDisagreeing booksAgree firstBelow firstFrom
 above-posts-last = refl
 
 -- A longer table than needed is accepted; its extra cells are not read.
-beyond : firstDisagreeing 1 6 1 (1 ∷ 7 ∷ []) (1 ∷ 2 ∷ []) (0 ∷ 3 ∷ []) (0 ∷ 0 ∷ []) ≡ 1
+not-read : firstDisagreeing 1 6 1 (1 ∷ 7 ∷ []) (1 ∷ 2 ∷ []) (0 ∷ 3 ∷ []) (0 ∷ 0 ∷ []) ≡ 1
 unfolding firstDisagreeing booksAgree firstBelow firstFrom
-beyond = refl
+not-read = refl
