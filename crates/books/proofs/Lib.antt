@@ -1,2 +1,3 @@
--- The laws of a run's books.
+-- The laws of a run's books, and examples by computation.
 pub mod Agreements
+pub mod Examples

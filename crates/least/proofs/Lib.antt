@@ -1,4 +1,4 @@
--- The laws of the least rule.
+-- The laws of the least rule, and examples by computation.
 pub mod Withdrawals
 pub mod Remains
 pub mod Ranks
@@ -8,3 +8,4 @@ pub mod Counts
 pub mod LeastIsLeast
 pub mod Rewritings
 pub mod Cutting
+pub mod Examples

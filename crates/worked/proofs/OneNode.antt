@@ -9,14 +9,15 @@ use lib.ListN.{length, getD, getD-replicate}
 use lib.Seq.{getD-take}
 use borrow.Author.Tests.{le-ltb}
 use Rattle.sums.specs.Sums.{sumTo, hit}
-use Rattle.sums.specs.Searches.{firstFrom, firstBelow, someBelow, allBelow}
+use Rattle.sums.specs.Searches.{firstFrom, firstBelow, someBelow}
 use Rattle.sums.specs.Tables.{cell, tab, square, written}
+use Rattle.sums.proofs.Searches.{allBelow}
 use Rattle.star.specs.declared.refusals.Verdict.{Verdict}
 use Rattle.star.specs.declared.refusals.Verdict.the-variants.{Accepted}
 use Rattle.star.specs.Refusals.{refuse, firstAbove}
 use Rattle.star.specs.Lines.{wholeFrame, lineSum, onLine, sourceOn, destinationOn, total, slack, excess}
 use Rattle.star.specs.Schedules.{Carries, count, differ, reconfigurations}
-use Rattle.flow.specs.Flows.{cut}
+use Rattle.flow.proofs.Duality.{cut}
 use Rattle.flow.proofs.Check.{below?, lines?, feasible?}
 use Rattle.least.specs.Least.{Greatest, keptFrom, keptCell, left, longer, share, remainder, missing, before, rank, shared}
 use Rattle.planner.specs.declared.answers.Answer.{Answer}
