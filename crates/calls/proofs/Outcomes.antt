@@ -32,7 +32,7 @@ unfolding postVerdict postNotice
 post-notice old arrivals waiting posted sent dropped =
     in-numbers _ _ _ (in-numbers _ _ _ (in-numbers _ _ _ (in-numbers _ _ _ (in-numbers _ _ _ (in-numbers _ _ _ (in-numbers _ _ _ (in-numbers _ _ _ (in-numbers _ _ _ refl))))))))
 
-frame-notice : (old : Run) (waiting posted sent dropped : List ℕ) (kept withdrawn schedule : ℕ) →
+pub frame-notice : (old : Run) (waiting posted sent dropped : List ℕ) (kept withdrawn schedule : ℕ) →
     noticeOf (frameVerdict old waiting posted sent dropped kept withdrawn schedule) ≡ frameNotice old waiting posted sent dropped kept withdrawn schedule
 unfolding frameVerdict frameNotice
 frame-notice old waiting posted sent dropped kept withdrawn schedule =

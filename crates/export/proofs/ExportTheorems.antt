@@ -31,7 +31,6 @@ module _ {promise : Answer → Type 0} {r : ℕ} {report : List ℕ} (x : Report
 same-number : {one other : Verdict → Type 0} {r₁ p₁ r₂ p₂ : ℕ} (x : Reported one r₁ p₁) (y : Reported other r₂ p₂) → x .verdict ≡ y .verdict → (r₁ ≡ r₂) × (p₁ ≡ p₂)
 same-number x y e = (x .its-number ∙ ap verdictNumber e ∙ sym (y .its-number), x .its-place ∙ ap verdictPlace e ∙ sym (y .its-place))
 
-
 same-report : {one other : Answer → Type 0} {r₁ r₂ : ℕ} {report₁ report₂ : List ℕ} (x : ReportedPlan one r₁ report₁) (y : ReportedPlan other r₂ report₂) →
     verdictOf (x .answer) ≡ verdictOf (y .answer) → keptTotal (x .answer) ≡ keptTotal (y .answer) → refusedTotal (x .answer) ≡ refusedTotal (y .answer) →
     (r₁ ≡ r₂) × (take 3 report₁ ≡ take 3 report₂)
@@ -61,7 +60,7 @@ fresh-exported old n l limit rule w p s d = record {
   numbers = λ run w' p' s' d' r place x. reported x ∙ x .kept .0 .notice;
   unique = λ run₁ w₁ p₁ s₁ d₁ run₂ w₂ p₂ s₂ d₂ r₁ place₁ r₂ place₂ x y.
       let one = fresh-theorems .unique n l limit rule (held old w p s d) (held run₁ w₁ p₁ s₁ d₁) (held run₂ w₂ p₂ s₂ d₂) (x .verdict) (y .verdict)
-          (record { tables = x .kept .0; record' = x .kept .1 }) (record { tables = y .kept .0; record' = y .kept .1 }) in
+      (record { tables = x .kept .0; record' = x .kept .1 }) (record { tables = y .kept .0; record' = y .kept .1 }) in
       let same = same-number x y (one .0) in
       (same .0, same .1, one .1);
   called = λ run w' p' s' d' r place x. record { tables = x .kept .0; record' = x .kept .1 };
@@ -72,7 +71,7 @@ post-exported old arrivals w p s d = record {
   numbers = λ run w' p' d' r place x. reported x ∙ x .kept .0 .notice;
   unique = λ run₁ w₁ p₁ d₁ run₂ w₂ p₂ d₂ r₁ place₁ r₂ place₂ x y.
       let one = post-theorems .unique arrivals (held old w p s d) (held run₁ w₁ p₁ s d₁) (held run₂ w₂ p₂ s d₂) (x .verdict) (y .verdict)
-          (record { tables = x .kept .0; record' = x .kept .1; same-sent = refl }) (record { tables = y .kept .0; record' = y .kept .1; same-sent = refl }) in
+      (record { tables = x .kept .0; record' = x .kept .1; same-sent = refl }) (record { tables = y .kept .0; record' = y .kept .1; same-sent = refl }) in
       let same = same-number x y (one .0) in
       (same .0, same .1, one .1);
   called = λ run w' p' d' r place x. record { tables = x .kept .0; record' = x .kept .1; same-sent = refl };

@@ -98,11 +98,11 @@ fresh-theorems = record {
       let e : v₁ ≡ v₂ = c .tables .answer ∙ sym (d .tables .answer) in (
         e,
         held-same
-        (c .record' ∙ ap (freshRun (h .run) n l limit rule) e ∙ sym (d .record'))
-        (c .tables .now-waiting ∙ ap (cleared n (h .waiting)) e ∙ sym (d .tables .now-waiting))
-        (c .tables .now-posted ∙ ap (cleared n (h .posted)) e ∙ sym (d .tables .now-posted))
-        (c .tables .now-sent ∙ ap (cleared n (h .sent)) e ∙ sym (d .tables .now-sent))
-        (c .tables .now-dropped ∙ ap (cleared n (h .dropped)) e ∙ sym (d .tables .now-dropped)),
+            (c .record' ∙ ap (freshRun (h .run) n l limit rule) e ∙ sym (d .record'))
+            (c .tables .now-waiting ∙ ap (cleared n (h .waiting)) e ∙ sym (d .tables .now-waiting))
+            (c .tables .now-posted ∙ ap (cleared n (h .posted)) e ∙ sym (d .tables .now-posted))
+            (c .tables .now-sent ∙ ap (cleared n (h .sent)) e ∙ sym (d .tables .now-sent))
+            (c .tables .now-dropped ∙ ap (cleared n (h .dropped)) e ∙ sym (d .tables .now-dropped)),
       );
   needed = λ n l limit rule h h' k k' v₁ v₂ c d a b.
       let e : v₁ ≡ v₂ = fresh-verdict c d a b in
@@ -180,11 +180,11 @@ post-theorems = record {
       let e : v₁ ≡ v₂ = c .tables .answer ∙ sym (d .tables .answer) in (
         e,
         held-same
-        (c .record' ∙ ap (postRun (h .run)) e ∙ sym (d .record'))
-        (c .tables .now-waiting ∙ ap (postWaiting (h .run) arrivals (h .waiting)) e ∙ sym (d .tables .now-waiting))
-        (c .tables .now-posted ∙ ap (postPosted (h .run) arrivals (h .posted)) e ∙ sym (d .tables .now-posted))
-        (c .same-sent ∙ sym (d .same-sent))
-        (c .tables .now-dropped ∙ ap (postDropped (h .run) arrivals (h .waiting) (h .dropped)) e ∙ sym (d .tables .now-dropped)),
+            (c .record' ∙ ap (postRun (h .run)) e ∙ sym (d .record'))
+            (c .tables .now-waiting ∙ ap (postWaiting (h .run) arrivals (h .waiting)) e ∙ sym (d .tables .now-waiting))
+            (c .tables .now-posted ∙ ap (postPosted (h .run) arrivals (h .posted)) e ∙ sym (d .tables .now-posted))
+            (c .same-sent ∙ sym (d .same-sent))
+            (c .tables .now-dropped ∙ ap (postDropped (h .run) arrivals (h .waiting) (h .dropped)) e ∙ sym (d .tables .now-dropped)),
       );
   needed = λ a b h h' k k' v₁ v₂ c d alike same.
       let e : v₁ ≡ v₂ = post-verdict a b h h' k k' alike same c d in

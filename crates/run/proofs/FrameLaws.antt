@@ -29,13 +29,13 @@ pub frame-planned : (old : Run) (w p s d k a q w' s' k' a' q' : List ℕ) (r : A
 frame-planned old w p s d k a q w' s' k' a' q' r f ok =
     let fits = frame-accepted old w p s d (length k) (length a) (length q) (sym (f .answer) ∙ ok) in
     let answered =
-        ok
-        ∙ plan-accepts (old .nodes) (old .slots) (old .rule) w (length k) (length a) (length q)
-        (record { some-nodes = fits .ranges .some-nodes; nodes = fits .ranges .nodes; some-slots = fits .ranges .some-slots; slots = fits .ranges .slots })
-        (fits .ranges .known-rule)
-        (fits .tables .queues .cells)
-        (fits .kept-room, fits .withdrawn-room, fits .schedule-room)
-        (λ c h. omega (arith, fits .order .books c h, fits .ranges .room)) in
+    ok
+    ∙ plan-accepts (old .nodes) (old .slots) (old .rule) w (length k) (length a) (length q)
+    (record { some-nodes = fits .ranges .some-nodes; nodes = fits .ranges .nodes; some-slots = fits .ranges .some-slots; slots = fits .ranges .slots })
+    (fits .ranges .known-rule)
+    (fits .tables .queues .cells)
+    (fits .kept-room, fits .withdrawn-room, fits .schedule-room)
+    (λ c h. omega (arith, fits .order .books c h, fits .ranges .room)) in
     record {
       answer = answered;
       notice = ap noticeOf answered ∙ plan-notice (old .nodes) (old .slots) (old .rule) w (length k) (length a) (length q);

@@ -14,7 +14,7 @@ use Rattle.sums.specs.Tables.{cell, tab, square, written}
 use Rattle.sums.proofs.Searches.{allBelow}
 use Rattle.star.specs.declared.refusals.Verdict.{Verdict}
 use Rattle.star.specs.declared.refusals.Verdict.the-variants.{Accepted}
-use Rattle.star.specs.Refusals.{refuse, firstAbove}
+use Rattle.star.specs.Refusals.{noticeOf, check, refuse, firstAbove}
 use Rattle.star.specs.Lines.{wholeFrame, lineSum, onLine, sourceOn, destinationOn, total, slack, excess}
 use Rattle.star.specs.Schedules.{Carries, count, differ, reconfigurations}
 use Rattle.flow.proofs.Duality.{cut}
@@ -25,8 +25,10 @@ use Rattle.planner.specs.declared.answers.Answer.the-variants.{Planned}
 use Rattle.planner.specs.Plans.{verdictOf}
 use Rattle.calls.specs.declared.record.Run.{Run}
 use Rattle.books.specs.Books.{booksAgree, firstDisagreeing}
-use Rattle.calls.specs.Runs.{freshVerdict, freshRun, cleared, postVerdict, postRun, postPosted, postDropped, postWaiting, frameVerdict, frameRun}
+use Rattle.calls.specs.Runs.{freshVerdict, freshNotice, freshRun, cleared, postVerdict, postNotice, postRun, postPosted, postDropped, postWaiting, frameVerdict, frameRun}
+use Rattle.calls.proofs.Outcomes.{frame-notice}
 use Rattle.run.specs.Held.{Held, FreshCall, PostCall, FrameCall}
+use Rattle.run.proofs.CallLaws.{held, held-same}
 use Rattle.worked.specs.Worked.{RunLine, start}
 use Rattle.worked.proofs.Marks.{by-marks}
 
@@ -34,21 +36,13 @@ use Rattle.worked.proofs.Marks.{by-marks}
 abbrev one : (posts frames : ℕ) → Run
 one posts frames = record { nodes = 1; slots = 4; limit = 6; rule = 1; posts = posts; frames = frames }
 
--- what is held, with one cell in each table
-abbrev held : (run : Run) (waiting posted sent dropped : List ℕ) → Held
-held run waiting posted sent dropped = record { run = run; waiting = waiting; posted = posted; sent = sent; dropped = dropped }
-
-same : {r r' : Run} {w w' p p' s s' d d' : List ℕ} → r ≡ r' → w ≡ w' → p ≡ p' → s ≡ s' → d ≡ d' → held r w p s d ≡ held r' w' p' s' d'
-same {r' = r'} {w = w} {w' = w'} {p = p} {p' = p'} {s = s} {s' = s'} {d = d} er ew ep es ed =
-    ap (λ x. held x w p s d) er ∙ ap (λ x. held r' x p s d) ew ∙ ap (λ x. held r' w' x s d) ep ∙ ap (λ x. held r' w' p' x d) es ∙ ap (λ x. held r' w' p' s' x) ed
-
 -- ---- fresh
 fresh-step : (old : Run) (w p s d : ℕ) (h h' : Held) (v : Verdict) → h ≡ start old w p s d → FreshCall 1 4 6 1 h h' v → h' ≡ held (one 0 0) (0 ∷ []) (0 ∷ []) (0 ∷ []) (0 ∷ [])
 unfolding freshVerdict freshRun cleared refuse written
 fresh-step old w p s d h h' v e call =
     let f : FreshCall 1 4 6 1 (start old w p s d) h' v = subst (λ x. FreshCall 1 4 6 1 x h' v) e call in
     let a : v ≡ Accepted = f .tables .answer in
-    same
+    held-same
     (f .record' ∙ ap (freshRun old 1 4 6 1) a)
     (f .tables .now-waiting ∙ ap (cleared 1 (w ∷ [])) a)
     (f .tables .now-posted ∙ ap (cleared 1 (p ∷ [])) a)
@@ -63,7 +57,7 @@ unfolding postRun postPosted postDropped postWaiting written tab
 post-step x posts frames w p s d h h' v e accepted call =
     let f = subst (λ y. PostCall (x ∷ []) y h' v) e call in
     let a : v ≡ Accepted = f .tables .answer ∙ accepted in
-    same
+    held-same
     (f .record' ∙ ap (postRun (one posts frames)) a)
     (f .tables .now-waiting ∙ ap (postWaiting (one posts frames) (x ∷ []) (w ∷ [])) a)
     (f .tables .now-posted ∙ ap (postPosted (one posts frames) (x ∷ []) (p ∷ [])) a)
@@ -94,7 +88,7 @@ frame-step x y posts frames p s d h h' r k a b k' a' b' e accepted leaves g call
     let yes : verdictOf r ≡ Accepted = f .tables .answer ∙ accepted in
     let plan = f .tables .accepted yes .plan .least refl in
     let four : getD k' 0 0 ≡ 4 = sym (getD-take 1 k' 0 0 (omega arith)) ∙ ap (λ z. getD z 0 0) (plan .1 ∙ kept-four x a' (forced x y a' leaves g (plan .0))) in
-    same
+    held-same
     (f .record' ∙ ap (frameRun (one posts frames)) yes)
     (f .tables .now-waiting yes ∙ ap (λ z. (x - z) ∷ []) four)
     (f .same-posted)
@@ -141,12 +135,16 @@ unfolding frameRun written tab total sumTo cell reconfigurations differ someBelo
 sends-four x y posts frames p s d k a b₀ b₁ b₂ b₃ accepted leaves takes g = record {
   tables = record {
     answer = sym accepted;
+    notice = ap noticeOf (sym accepted) ∙ frame-notice (one posts frames) (x ∷ []) (p ∷ []) (s ∷ []) (d ∷ []) 1 1 4;
     accepted = λ _. record {
       plan = record {
         fair = λ e. absurd (omega arith);
         least = λ _. (g, sym (kept-four x (y ∷ []) (forced x y (y ∷ []) leaves g g)));
         carried = four-slots;
       };
+      kept-length = refl;
+      withdrawn-length = refl;
+      schedule-length = refl;
       kept-rest = refl;
       withdrawn-rest = refl;
       schedule-rest = refl;
@@ -164,7 +162,7 @@ sends-four x y posts frames p s d k a b₀ b₁ b₂ b₃ accepted leaves takes 
 }
 
 pub one-node : RunLine 10 3 13 8 4 1
-unfolding freshVerdict freshRun cleared postVerdict postRun postPosted postDropped postWaiting frameVerdict refuse firstDisagreeing booksAgree firstBelow firstFrom firstAbove written tab
+unfolding freshVerdict freshNotice freshRun cleared postVerdict postNotice check postRun postPosted postDropped postWaiting frameVerdict refuse firstDisagreeing booksAgree firstBelow firstFrom firstAbove written tab
 one-node = record {
   ends = λ h₀ h₁ h₂ h₃ h₄ h₅ v₀ v₁ v₂ r₁ r₂ old w p s d begins k₁ a₁ s₁ k₁' a₁' s₁' k₂ a₂ s₂ k₂' a₂' s₂' hk₁ ha₁ hs₁ hk₂ ha₂ hs₂ fresh post₁ frame₁ post₂ frame₂.
       let e₁ = fresh-step old w p s d h₀ h₁ v₀ begins fresh in
@@ -187,10 +185,10 @@ one-node = record {
     4 ∷ [],
     1 ∷ [],
     0 ∷ 0 ∷ 0 ∷ 0 ∷ [],
-    record { tables = record { answer = refl; now-waiting = refl; now-posted = refl; now-sent = refl; now-dropped = refl }; record' = refl },
-    record { tables = record { answer = refl; now-waiting = refl; now-posted = refl; now-dropped = refl }; record' = refl; same-sent = refl },
+    record { tables = record { answer = refl; notice = refl; now-waiting = refl; now-posted = refl; now-sent = refl; now-dropped = refl }; record' = refl },
+    record { tables = record { answer = refl; notice = refl; now-waiting = refl; now-posted = refl; now-dropped = refl }; record' = refl; same-sent = refl },
     sends-four 6 2 1 0 10 0 4 0 0 0 0 0 0 refl refl refl six,
-    record { tables = record { answer = refl; now-waiting = refl; now-posted = refl; now-dropped = refl }; record' = refl; same-sent = refl },
+    record { tables = record { answer = refl; notice = refl; now-waiting = refl; now-posted = refl; now-dropped = refl }; record' = refl; same-sent = refl },
     sends-four 5 1 2 1 13 4 4 4 2 0 0 0 0 refl refl refl five,
     refl,
     refl,
