@@ -1,6 +1,6 @@
 -- Document 01's table of refusals, its ranges, and its words on lines and schedules, at their edges: each by computation, so that no definition can be
 -- changed together with the code unnoticed. Assumes nothing.
-use Prim.Native.Nat.{ℕ, _<_}
+use Prim.Native.Nat.{_<_}
 use native.Mathlib.Omega.{arith}
 use mathlib.Core.Path.{_≡_, refl}
 use mathlib.Core.Logic.{⊎-elim}
@@ -77,7 +77,7 @@ unfolding sizesVerdict refuse
 sizes-accepted = refl
 
 -- One demand or arrival is 0 to 65,535: four cells of 65,535 have no bad one.
-above-none : firstAbove 2 (65535 ∷ 0 ∷ 65535 ∷ 65535 ∷ []) ≡ 4
+above-none : firstAbove 2 (65535 ∷ 65535 ∷ 65535 ∷ 65535 ∷ []) ≡ 4
 unfolding firstAbove firstBelow firstFrom
 above-none = refl
 
@@ -134,6 +134,7 @@ most-slack : slack 1 (wholeFrame 1 1024) (0 ∷ []) 0 ≡ pos 1024
 unfolding slack wholeFrame lineSum onLine sourceOn destinationOn sumTo cell
 most-slack = refl
 
+-- the sum of all cells, and of no extra one
 totals : total 2 (5 ∷ 0 ∷ 3 ∷ 1 ∷ 7 ∷ []) ≡ 9
 unfolding total sumTo cell
 totals = refl
@@ -179,7 +180,7 @@ both-steps : reconfigurations 2 3 (0 ∷ 1 ∷ 1 ∷ 0 ∷ 0 ∷ 1 ∷ []) ≡ 2
 unfolding reconfigurations differ someBelow sumTo cell
 both-steps = refl
 
--- Idle is a value like any other: the last destination alone goes idle, and then the first.
+-- Idle is a value like any other: the last destination alone goes idle, or the first alone.
 to-idle : map (reconfigurations 2 2) ((0 ∷ 1 ∷ 0 ∷ 255 ∷ []) ∷ (0 ∷ 1 ∷ 255 ∷ 1 ∷ []) ∷ []) ≡ 1 ∷ 1 ∷ []
 unfolding reconfigurations differ someBelow sumTo cell
 to-idle = refl

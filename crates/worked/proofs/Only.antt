@@ -1,7 +1,7 @@
 -- Where A is the only greatest withdrawn matrix, by a bound for each cell that computes. A cell is at most D and at most the excess of its row and of
 -- its column; and the total and that cell once more are at most both excesses and what the cells off both lines have room for, as its row and its
 -- column count it twice. Where no bound is above A, a greatest matrix is nowhere above A and has A's total: it is A. Assumes nothing.
-use Prim.Native.Nat.{ℕ, _+_, _-_, _*_, _≤_, _<_, min}
+use Prim.Native.Nat.{ℕ, _+_, _-_, _≤_, _<_, min}
 use native.Mathlib.Omega.{arith}
 use mathlib.Core.Path.{_≡_, refl, sym, _∙_, ap}
 use mathlib.Core.Bool.{Bool, true, false, not}

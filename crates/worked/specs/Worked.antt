@@ -1,5 +1,5 @@
 -- Worked by hand: the fourteen starred lines a to n of document 01, as one statement about the definitions. Each line may fill the frame.
-use Prim.Native.Nat.{ℕ, _+_, _-_, _*_, _≤_, _<_}
+use Prim.Native.Nat.{ℕ, _-_, _*_, _≤_, _<_}
 use mathlib.Core.Path.{_≡_}
 use mathlib.Core.List.{List, [], _∷_}
 use lib.ListN.{length, take, replicate}
@@ -26,7 +26,7 @@ pub record LeastLine (n l : ℕ) (d a kept : List ℕ) (refused : ℕ) : Type 0 
   pub keeps : keptFrom n (wholeFrame n l) d a ≡ kept
   pub refuses : total n d - total n kept ≡ refused
 
--- A line under rule 1 whose A is so, and not only may be so: every greatest withdrawn matrix has these cells, and so every plan keeps these.
+-- a line under rule 1 that says "A is" and not "A may be": every greatest withdrawn matrix has the cells of this A, and so every plan keeps the same
 pub record OnlyLeastLine (n l : ℕ) (d a kept : List ℕ) (refused : ℕ) : Type 0 where
   pub line : LeastLine n l d a kept refused
   pub only : (b : List ℕ) → Greatest n (wholeFrame n l) d b → (i j : ℕ) → i < n → j < n → cell n b i j ≡ cell n a i j
