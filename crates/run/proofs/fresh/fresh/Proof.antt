@@ -195,8 +195,8 @@ module _ {M : Type 1} (𝓤 : URA M) (H : Heap 𝓤) (A : Atoms 𝓤) (W : Given
         keep ! (0 ∷ 1 ∷ 2 ∷ 4 ∷ 8 ∷ 7 ∷ 6 ∷ 5 ∷ 3 ∷ []) $ by ! (exits r u (zs .1 .1 .1 .1 .1 .0) (zs .1 .1 .1 .1 .1 .1 .0) (zs .1 .1 .1 .1 .1 .1 .1 .0) (zs .1 .1 .1 .1 .1 .1 .1 .1 .0) m e (held m anew) len4 len5 len6 len7)))))
         ) (λ vs tag held.
         rewrite ! 29 (λ (z : Val). ‵ (fat fullShare (spell mir′.table (pointee (rVerdict.the-row .written))) l11 0 z)) (ap only (EL.tells rVerdict.the-type lVerdict.the-laws r _ is) ∙ tag) refl $ leaves ! (load ! (from ! (vrt ! refl (fld ! refl (stop !)))) (look-tag ! 29 (whole !))) $ rewrite ! 29 (λ (z : Val). ‵ (fat fullShare (spell mir′.table (pointee (rVerdict.the-row .written))) l11 0 z)) (sym (ap only (EL.tells rVerdict.the-type lVerdict.the-laws r _ is) ∙ tag)) refl $
-        owned ! rRun.the-row (Is rRun.the-row) (LL.makes rRun.the-type lRun.the-plain 𝓤 H A) h _ was $ assigns ! (of-opd ! (load ! (from ! (stop !)) (look ! 30 refl))) (from ! (stop !)) (init ! 52 refl (EL.lawful rVerdict.the-type lVerdict.the-laws 𝓤 H A W tt .typed r _ is .0)) $
-        move ! (8 ∷ 0 ∷ 9 ∷ 10 ∷ 11 ∷ []) $ closes ! tt rRun.the-row h (LL.vals rRun.the-type lRun.the-laws h) b o $
+        assigns ! (of-opd ! (load ! (from ! (stop !)) (look ! 29 refl))) (from ! (stop !)) (init ! 51 refl (EL.lawful rVerdict.the-type lVerdict.the-laws 𝓤 H A W tt .typed r _ is .0)) $
+        owned ! rRun.the-row (Is rRun.the-row) (LL.makes rRun.the-type lRun.the-plain 𝓤 H A) h _ was $ move ! (8 ∷ 0 ∷ 9 ∷ 10 ∷ 11 ∷ []) $ closes ! tt rRun.the-row h (LL.vals rRun.the-type lRun.the-laws h) b o $
         returns-within ! Post refl (look ! 50 refl) $ forget ! 12 refl $ forget ! 14 refl $ forget ! 16 refl $ forget ! 18 refl $ forget ! 20 refl $ forget ! 22 refl $ forget ! 24 refl $ forget ! 26 refl $ forget ! 28 refl $ forget ! 30 refl $ forget ! 32 refl $ forget ! 34 refl $ forget ! 36 refl $ forget ! 38 refl $ forget ! 40 refl $ forget ! 42 refl $ forget ! 44 refl $ forget ! 46 refl $ forget ! 48 refl $ forget ! 50 refl $
         move ! (50 ∷ 51 ∷ []) $ free1 ! $ move ! (48 ∷ 49 ∷ []) $ free1 ! $ move ! (46 ∷ 47 ∷ []) $ free1 ! $ move ! (44 ∷ 45 ∷ []) $ free1 ! $ move ! (42 ∷ 43 ∷ []) $ free1 ! $ move ! (40 ∷ 41 ∷ []) $ free1 ! $ move ! (38 ∷ 39 ∷ []) $ free1 ! $ move ! (36 ∷ 37 ∷ []) $ free1 ! $ move ! (34 ∷ 35 ∷ []) $ free1 ! $ move ! (32 ∷ 33 ∷ []) $ free1 ! $ move ! (30 ∷ 31 ∷ []) $ free1 ! $ move ! (28 ∷ 29 ∷ []) $ free1 ! $ move ! (26 ∷ 27 ∷ []) $ free1 ! $ move ! (24 ∷ 25 ∷ []) $ free1 ! $ move ! (22 ∷ 23 ∷ []) $ free1 ! $ move ! (20 ∷ 21 ∷ []) $ free1 ! $ move ! (18 ∷ 19 ∷ []) $ free1 ! $ move ! (16 ∷ 17 ∷ []) $ free1 ! $ move ! (14 ∷ 15 ∷ []) $ free1 ! $ move ! (12 ∷ 13 ∷ []) $ free1 ! $ move ! (10 ∷ 11 ∷ []) $ free1 ! $ free0 ! $
         keep ! (0 ∷ 1 ∷ 2 ∷ 4 ∷ 9 ∷ 8 ∷ 7 ∷ 5 ∷ 3 ∷ []) $ by ! (exits r u (zs .1 .1 .1 .1 .1 .0) (zs .1 .1 .1 .1 .1 .1 .0) (zs .1 .1 .1 .1 .1 .1 .1 .0) (zs .1 .1 .1 .1 .1 .1 .1 .1 .0) h e held len4 len5 len6 len7)
