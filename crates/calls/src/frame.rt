@@ -13,7 +13,6 @@ use star::refusals::Verdict;
 ghost use mathlib.Core.Path.{_≡_};
 ghost use Prim.Native.Nat.{_<_};
 ghost use Rattle.star.specs.declared.refusals.Verdict.the-variants.{Accepted};
-ghost use Rattle.planner.specs.Plans.{verdictOf};
 ghost use Rattle.calls.specs.Runs.{frameVerdict, Framed, frameRun};
 
 // Which refusal is given, if any; the last three numbers say how many cells kept, withdrawn and schedule have.
@@ -97,17 +96,10 @@ pub fn frame_on(
     a
 }
 
-// How many frames the record counts after a frame.
-pub fn frames_after(old: Run, a: Answer) -> u32
-    requires { ⌜ (verdictOf a ≡ Accepted → old .frames < 1000000) ⌝ }
-    ensures { λ r. ⌜ r ≡ frameRun old (verdictOf a) .frames ⌝ }
+// How many frames the record counts after a frame that is accepted.
+pub fn frames_after(old: Run) -> u32
+    requires { ⌜ old .frames < 1000000 ⌝ }
+    ensures { λ r. ⌜ r ≡ frameRun old Accepted .frames ⌝ }
 {
-    match a {
-        Answer::Planned {
-            kept: _,
-            refused: _,
-            reconfigurations: _,
-        } => old.frames + 1,
-        Answer::Refused { refusal: _ } => old.frames,
-    }
+    old.frames + 1
 }

@@ -7,6 +7,7 @@ use star::refusals::Refusal;
 use star::refusals::Verdict;
 use star::tables;
 ghost use mathlib.Core.Path.{_≡_};
+ghost use Rattle.star.specs.declared.refusals.Verdict.the-variants.{Accepted};
 ghost use Rattle.calls.specs.Runs.{freshVerdict, Freshened, freshRun};
 
 // Which refusal is given, if any; the last four numbers say how many cells the tables have.
@@ -69,19 +70,16 @@ pub fn fresh_on(
     v
 }
 
-// What the record holds after a fresh start.
-pub fn fresh_run(old: Run, v: Verdict, nodes: u32, slots: u32, limit: u32, rule: u32) -> Run
-    ensures { λ r. ⌜ r ≡ freshRun old nodes slots limit rule v ⌝ }
+// The record of a run that starts; what it held before does not matter.
+pub fn started(nodes: u32, slots: u32, limit: u32, rule: u32) -> Run
+    ensures { λ r. ⌜ ((old : Run) → r ≡ freshRun old nodes slots limit rule Accepted) ⌝ }
 {
-    match v {
-        Verdict::Accepted => Run {
-            nodes: nodes,
-            slots: slots,
-            limit: limit,
-            rule: rule,
-            posts: 0,
-            frames: 0,
-        },
-        Verdict::Refused { refusal: _ } => old,
+    Run {
+        nodes: nodes,
+        slots: slots,
+        limit: limit,
+        rule: rule,
+        posts: 0,
+        frames: 0,
     }
 }

@@ -32,6 +32,15 @@ pub fn frame(
         withdrawn,
         schedule,
     );
-    run.frames = frames_after(old, a);
+    // A refused frame stores nothing: the record may lie in memory that cannot be written.
+    let Answer::Planned {
+        kept: _,
+        refused: _,
+        reconfigurations: _,
+    } = a
+    else {
+        return a;
+    };
+    run.frames = frames_after(old);
     a
 }

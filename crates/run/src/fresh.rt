@@ -1,6 +1,6 @@
 // The entry `fresh`: a run starts.
 use calls::fresh::fresh_on;
-use calls::fresh::fresh_run;
+use calls::fresh::started;
 use calls::record::Run;
 use star::refusals::Verdict;
 ghost use mathlib.Core.Path.{_≡_};
@@ -33,7 +33,10 @@ pub fn fresh(
         sent,
         dropped,
     );
-    let new = fresh_run(old, v, nodes, slots, limit, rule);
-    *run = new;
+    // A refused start stores nothing: the record may lie in memory that cannot be written.
+    let Verdict::Accepted = v else {
+        return v;
+    };
+    *run = started(nodes, slots, limit, rule);
     v
 }

@@ -21,6 +21,10 @@ pub fn post(
 {
     let old = *run;
     let v = post_on(old, arrivals, waiting, posted, sent, dropped);
-    run.posts = posts_after(old, v);
+    // A refused post stores nothing: the record may lie in memory that cannot be written.
+    let Verdict::Accepted = v else {
+        return v;
+    };
+    run.posts = posts_after(old);
     v
 }
