@@ -216,11 +216,11 @@ fn a_frame_stores_its_count() {
     }
 }
 
-/// A fresh start sets every value of the record; a refused one none, whichever values it was given.
+/// A fresh start stores the whole record, and a refused one nothing at all.
 #[test]
 fn a_fresh_start_stores_all_or_nothing() {
     for &number in [0].iter().chain(FRESH) {
-        let (mut run, mut tables) = refused_by(0);
+        let (run, mut tables) = refused_by(0);
         let mut values = [1, 5, 7, 0];
         match number {
             0 => {}
@@ -230,21 +230,22 @@ fn a_fresh_start_stores_all_or_nothing() {
             5 => tables.dropped.clear(),
             _ => values[2] = 0,
         }
-        let before = run;
-        assert_eq!(fresh(&mut run, values, &mut tables), number);
-        if number == 0 {
-            let [nodes, slots, limit, rule] = values;
-            let started = Run {
-                nodes,
-                slots,
-                limit,
-                rule,
-                posts: 0,
-                frames: 0,
-            };
-            assert_eq!(run, started);
+        let [nodes, slots, limit, rule] = values;
+        let started = Run {
+            nodes,
+            slots,
+            limit,
+            rule,
+            posts: 0,
+            frames: 0,
+        };
+        let (shut, held) = if number == 0 {
+            (Shut::From(size_of::<Run>()), started)
         } else {
-            assert_eq!(run, before, "{number}");
-        }
+            (Shut::Before(size_of::<Run>()), run)
+        };
+        let lent = Parted::new(run, shut);
+        assert_eq!(fresh(lent.record, values, &mut tables), number);
+        assert_eq!(lent.held(), held, "{number}");
     }
 }
