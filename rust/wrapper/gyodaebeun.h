@@ -26,13 +26,19 @@
  * What the caller must keep, and there is nothing else:
  *
  *   - each pointer is valid for as many cells as are given with it, that of a report for four, that
- *     of a record or a place for one, and none is NULL, also where the number of cells is 0;
+ *     of a record or a place for one: to be read and, unless it is const, to be written;
+ *   - none is NULL but that of a table of 0 cells, with which every call is refused, by 4 or 5 if by
+ *     nothing before;
  *   - each pointer is aligned as its type asks;
- *   - no two tables overlap, nor does one overlap the record, *place or the report;
+ *   - nothing that is lent to a call overlaps: no two tables, no table and the record, *place or the
+ *     report, nor the record and *place or the report. So &run.posts is no place for a call on run;
  *   - during a call nobody else writes to what is lent, nor reads what the call writes.
  *
  * An entry keeps nothing between calls, takes no memory but its stack, and may be called from
  * several threads at once on tables of their own.
+ *
+ * To link: target/staticlib/libexport.a, which `rt staticlib export` makes, for x86-64 Linux. It
+ * calls memcpy and memset, and needs nothing else.
  *
  * The stack that a call needs, measured on x86-64 at N 64 and L 1024 over many families of demands,
  * rounded up, in bytes:
@@ -74,7 +80,31 @@ uint32_t gyodaebeun_slacks(uint32_t nodes, uint32_t slots,
  * withdrawn  N * N cells, written: what the least rule withdrew, zeros under the fair rule
  * schedule   L * N bytes, written
  * report     4 cells, written: the place, the kept total, the refused total, and the number of
- *            slots that differ from the one before
+ *            slots that differ from the one before for some destination, idle being a value like
+ *            any other
+ *
+ * The fair rule: as long as the sum of some line is above L, each such line has the fraction
+ * (L - b) / a, where b is the sum of its cells that were cut before and a that of the others, and
+ * the line with the smallest fraction, of equal ones the lowest line, is cut: its other cells are
+ * multiplied by the fraction and rounded down. Slots lost by rounding stay idle.
+ *
+ * The least rule: from the pairs whose row and column both have a sum above L, as many slots as
+ * possible are withdrawn, from no pair more than it asks and from no line more than it is above L.
+ * Each line whose sum s is then still above L keeps v * L / s of each cell v, rounded down, and its
+ * slots still missing from L go one each to the cells with the largest remainder, of equal ones the
+ * first in the line.
+ *
+ * Under both rules kept is at most the demand, no line of kept is above L, the schedule gives each
+ * pair exactly its kept slots and is idle elsewhere, and no source stands twice in a slot. The
+ * refused total is the total of the demand minus that of kept; under the least rule no schedule of
+ * L slots could refuse less. Withdrawn is not demand minus kept, but only what was withdrawn before
+ * lines were cut: at L 10 and under the least rule
+ *
+ *   demand  11 1   withdrawn  1 0   kept  9 1   refused total  2
+ *            0 0              0 0         0 0
+ *
+ * Where several plans are right, in which slots a pair sends or in what is withdrawn, the library
+ * chooses one.
  *
  * Refusals: 1, 2, 3, 4, 5, 6, in this order. */
 uint32_t gyodaebeun_plan(uint32_t nodes, uint32_t slots, uint32_t rule,
@@ -87,6 +117,10 @@ uint32_t gyodaebeun_plan(uint32_t nodes, uint32_t slots, uint32_t rule,
 /* The record of a run. gyodaebeun_fresh fills it; gyodaebeun_post and gyodaebeun_frame check the
  * values that they find in it and use them. With the run's four tables it is all there is of a run:
  * who stores them can go on later.
+ *
+ * What is stored in it: by an accepted fresh the whole record, by an accepted post only posts, by an
+ * accepted frame only frames; by a refused fresh nothing, by a refused post or frame nothing but, at
+ * most, the same count again.
  *
  * A cell of the four tables counts slots of its pair:
  *
@@ -109,7 +143,7 @@ struct gyodaebeun_run {
 /* Starts a run: the four values go into the record, both counts become 0, and so do the first N * N
  * cells of the four tables. What the record and the tables held before does not matter.
  *
- * run      written
+ * run      written, all of it
  * waiting  N * N cells, written
  * posted   N * N cells, written
  * sent     N * N cells, written
@@ -127,7 +161,7 @@ uint32_t gyodaebeun_fresh(struct gyodaebeun_run *run,
 /* Posts arrivals: each is added to posted, what would lift waiting above the queue limit to
  * dropped, the rest to waiting; the record's posts rise by 1.
  *
- * run       read, its posts written
+ * run       read and written, only its count of posts changes
  * arrivals  N * N cells, read
  * waiting   N * N cells, read and written
  * posted    N * N cells, read and written
@@ -147,7 +181,7 @@ uint32_t gyodaebeun_post(struct gyodaebeun_run *run,
  * report are written as by gyodaebeun_plan, what is kept is taken from waiting and added to sent;
  * the record's frames rise by 1. A frame over empty queues is accepted.
  *
- * run        read, its frames written
+ * run        read and written, only its count of frames changes
  * waiting    N * N cells, read and written
  * posted     N * N cells, read
  * sent       N * N cells, read and written

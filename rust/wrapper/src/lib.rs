@@ -14,6 +14,7 @@
 //! let plan = gyodaebeun::plan(2, 10, 1, &demand, &mut kept, &mut withdrawn, &mut schedule)?;
 //! assert_eq!((plan.kept, plan.refused), (10, 2));
 //! assert_eq!(kept, [9, 1, 0, 0]);
+//! assert_eq!(withdrawn, [1, 0, 0, 0]);
 //! let idle = schedule.iter().filter(|&&source| source == 255);
 //! assert_eq!(idle.count(), 10);
 //! # Ok::<(), gyodaebeun::Refusal>(())
@@ -59,7 +60,8 @@ pub use refusal::Refusal;
 pub use run::{Books, Run};
 
 // Where the library is called, here and in `run`, each pointer comes with the length of the slice
-// that it was taken from, and no two slices overlap, since all but the read ones are exclusive.
+// that it was taken from, and nothing that is lent overlaps: slices, record, place and report are
+// borrowed exclusively, but for one slice at most.
 
 /// The slack of each line, L minus the line's sum, into the first 2N cells of `slacks`: the rows,
 /// then the columns. A line overflows where its slack is negative.
@@ -90,7 +92,8 @@ pub struct Plan {
     pub kept: u32,
     /// The demand of all pairs minus what they keep.
     pub refused: u32,
-    /// How often a slot differs from the one before it.
+    /// How many slots differ from the one before for some destination, idle being a value like any
+    /// other.
     pub reconfigurations: u32,
 }
 
@@ -110,6 +113,24 @@ impl Plan {
 /// `kept`, what the least rule withdrew into those of `withdrawn`, zeros under the fair rule, and
 /// how a frame carries what is kept into the first L×N bytes of `schedule`: slot k, destination j at
 /// k×N+j holds the source, or 255 for idle.
+///
+/// The fair rule: as long as the sum of some line is above L, each such line has the fraction
+/// (L−b)/a, where b is the sum of its cells that were cut before and a that of the others, and the
+/// line with the smallest fraction, of equal ones the lowest line, is cut: its other cells are
+/// multiplied by the fraction and rounded down. Slots lost by rounding stay idle.
+///
+/// The least rule: from the pairs whose row and column both have a sum above L, as many slots as
+/// possible are withdrawn, from no pair more than it asks and from no line more than it is above L.
+/// Each line whose sum s is then still above L keeps v×L/s of each cell v, rounded down, and its
+/// slots still missing from L go one each to the cells with the largest remainder, of equal ones the
+/// first in the line.
+///
+/// Under both rules what is kept is at most the demand, no line of it is above L, the schedule gives
+/// each pair exactly its kept slots and is idle elsewhere, and no source stands twice in a slot.
+/// Under the least rule no schedule of L slots could refuse less. Withdrawn is not demand minus kept,
+/// but only what was withdrawn before lines were cut: in the [first example](crate) that is 1 slot,
+/// and 2 are refused. Where several plans are right, in which slots a pair sends or in what is
+/// withdrawn, the library chooses one.
 ///
 /// `demand` holds N×N cells. Refused, in this order, by [`Refusal::Nodes`], [`Refusal::Slots`],
 /// [`Refusal::Rule`], [`Refusal::DemandShort`], [`Refusal::TableShort`] and

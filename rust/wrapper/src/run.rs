@@ -3,6 +3,10 @@ use crate::{Plan, Refusal, raw};
 /// The record of a run. [`Run::fresh`] fills it; [`Run::post`] and [`Run::frame`] check the values
 /// they find in it and use them. A caller may store it, with the four tables of [`Books`], and go
 /// on later.
+///
+/// An accepted fresh start stores the whole record, an accepted post only `posts`, an accepted frame
+/// only `frames`. A refused fresh start stores nothing in it, a refused post or frame nothing but, at
+/// most, the same count again.
 #[repr(C)]
 #[derive(Clone, Copy, Debug, Default, PartialEq, Eq)]
 pub struct Run {
@@ -76,7 +80,8 @@ impl Run {
     }
 
     /// Posts arrivals, N×N cells: each is added to `posted`, what would lift `waiting` above B to
-    /// `dropped`, the rest to `waiting`; `posts` rises by 1. `sent` is only read.
+    /// `dropped`, the rest to `waiting`; `posts` rises by 1, and nothing else in the record
+    /// changes. `sent` is only read.
     ///
     /// Refused, in this order, by [`Refusal::Nodes`], [`Refusal::Slots`], [`Refusal::Rule`] and
     /// [`Refusal::QueueLimit`] for what the record holds, [`Refusal::DemandShort`],
@@ -105,8 +110,8 @@ impl Run {
 
     /// Plans a frame with what is waiting as the demand and sends it: writes `kept`, `withdrawn` and
     /// `schedule` as [`plan`](crate::plan) does, takes what is kept from `waiting` and adds it to
-    /// `sent`; `frames` rises by 1. `posted` and `dropped` are only read. A frame over empty queues
-    /// is accepted.
+    /// `sent`; `frames` rises by 1, and nothing else in the record changes. `posted` and `dropped`
+    /// are only read. A frame over empty queues is accepted.
     ///
     /// Refused, in this order, by [`Refusal::Nodes`], [`Refusal::Slots`], [`Refusal::Rule`] and
     /// [`Refusal::QueueLimit`] for what the record holds, [`Refusal::TableShort`] for any of the
