@@ -12,8 +12,8 @@ use borrow.Author.Tests.{eqb-true, leb-true}
 use Rattle.sums.specs.Tables.{cell}
 use Rattle.sums.proofs.Searches.{both-first, both-second, allBelow, all-at}
 use Rattle.star.specs.Lines.{lineSum, total}
-use Rattle.flow.specs.Flows.{Feasible}
-use Rattle.flow.proofs.Duality.{Largest, cut, within-cut}
+use Rattle.flow.specs.Flows.{Feasible, Largest, cut}
+use Rattle.flow.proofs.Duality.{within-cut}
 
 module _ (n : ℕ) (bound limit a : List ℕ) where
   -- the two parts of being feasible, and both

@@ -6,7 +6,6 @@ use native.Mathlib.Omega.{arith}
 use mathlib.Core.Path.{_≡_, sym, _∙_, ap, ap₂}
 use mathlib.Core.Bool.{Bool, true, false, not}
 use mathlib.Core.List.{List}
-use lib.ListN.{getD}
 use borrow.Author.Tests.{not-true}
 use Rattle.sums.specs.Sums.{sumTo, gate}
 use Rattle.sums.specs.Tables.{cell}
@@ -14,20 +13,7 @@ use Rattle.sums.proofs.Sums.{sum-ext, sum-mono, sum-add, sum-swap}
 use Rattle.sums.proofs.Gates.{sum-gate, gate-split, gate-mono, gate-le, gate-cong, gate-drop, gate-zero}
 use Rattle.star.specs.Lines.{total}
 use Rattle.star.proofs.LineLaws.{row-sum, column-sum}
-use Rattle.flow.specs.Flows.{Feasible, Closed, marked}
-
--- among all such matrices its total is the greatest
-pub record Largest (n : ℕ) (bound limit a : List ℕ) : Type 0 where
-  pub feasible : Feasible n bound limit a
-  pub most : (b : List ℕ) → Feasible n bound limit b → total n b ≤ total n a
-
--- what no feasible matrix can exceed, for any marks: the limits of the rows without a mark, the limits of the columns with one,
--- and the bounds where a marked row meets a column without one
-unfoldable pub cut : (n : ℕ) (bound limit marks : List ℕ) → ℕ
-cut n bound limit marks =
-    sumTo n (λ i. gate (not (marked marks i)) (getD limit i 0))
-    + (sumTo n (λ j. gate (marked marks (n + j)) (getD limit (n + j) 0))
-    + sumTo n (λ i. sumTo n (λ j. gate (marked marks i) (gate (not (marked marks (n + j))) (cell n bound i j)))))
+use Rattle.flow.specs.Flows.{Feasible, Largest, Closed, marked, cut}
 
 -- the three parts of a matrix's total, for a set of rows and a set of columns
 module _ (n : ℕ) (a : ℕ → ℕ → ℕ) (r c : ℕ → Bool) where

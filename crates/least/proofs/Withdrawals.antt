@@ -11,8 +11,7 @@ use Rattle.sums.specs.Tables.{cell, tab, written}
 use Rattle.sums.proofs.Tables.{length-tab, tab-at, written-first}
 use Rattle.star.specs.Lines.{lineSum, overflows, excess, critical}
 use Rattle.star.proofs.LineLaws.{excess-is, overflows-is, cell-in-row, cell-in-column}
-use Rattle.flow.specs.Flows.{Feasible}
-use Rattle.flow.proofs.Duality.{Largest}
+use Rattle.flow.specs.Flows.{Feasible, Largest}
 use Rattle.flow.proofs.Duality.{closed-is-largest}
 use Rattle.flow.specs.Certified.{Certified}
 use Rattle.least.specs.Least.{Withdrawn, Greatest}

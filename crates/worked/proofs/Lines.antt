@@ -7,7 +7,7 @@ use Rattle.sums.specs.Tables.{cell, tab, square}
 use Rattle.sums.proofs.Searches.{allBelow}
 use Rattle.star.specs.Lines.{wholeFrame, lineSum, onLine, sourceOn, destinationOn, total, slack, excess}
 use Rattle.fair.specs.Fair.{fairKept, steps, step, uncut, taken, smaller, exceeds, numerator, modifiedSum, unmodifiedSum, modified, cutLine, cutCell}
-use Rattle.flow.proofs.Duality.{cut}
+use Rattle.flow.specs.Flows.{cut}
 use Rattle.flow.proofs.Check.{below?, lines?, feasible?}
 use Rattle.least.specs.Least.{keptFrom, keptCell, left, longer, share, remainder, missing, before, rank, shared}
 use Rattle.worked.specs.Worked.{WorkedLines}

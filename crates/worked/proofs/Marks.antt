@@ -6,7 +6,7 @@ use mathlib.Core.List.{List}
 use lib.Dec.{eqb}
 use Rattle.sums.specs.Tables.{tab}
 use Rattle.star.specs.Lines.{wholeFrame, total, excess}
-use Rattle.flow.proofs.Duality.{cut}
+use Rattle.flow.specs.Flows.{cut}
 use Rattle.flow.proofs.Check.{feasible?, meets-cut}
 use Rattle.least.specs.Least.{Greatest}
 use Rattle.least.proofs.Withdrawals.{largest-is-greatest}

@@ -17,7 +17,7 @@ use Rattle.star.specs.declared.refusals.Verdict.the-variants.{Accepted}
 use Rattle.star.specs.Refusals.{noticeOf, check, refuse, firstAbove}
 use Rattle.star.specs.Lines.{wholeFrame, lineSum, onLine, sourceOn, destinationOn, total, slack, excess}
 use Rattle.star.specs.Schedules.{Carries, count, differ, reconfigurations}
-use Rattle.flow.proofs.Duality.{cut}
+use Rattle.flow.specs.Flows.{cut}
 use Rattle.flow.proofs.Check.{below?, lines?, feasible?}
 use Rattle.least.specs.Least.{Greatest, keptFrom, keptCell, left, longer, share, remainder, missing, before, rank, shared}
 use Rattle.planner.specs.declared.answers.Answer.{Answer}
