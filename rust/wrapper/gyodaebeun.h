@@ -26,7 +26,8 @@
  * What the caller must keep, and there is nothing else:
  *
  *   - each pointer is valid for as many cells as are given with it, that of a report for four, that
- *     of a record or a place for one: to be read and, unless it is const, to be written;
+ *     of a record or a place for one: to be read and, unless it is const, to be written (a record
+ *     only where the call is accepted);
  *   - none is NULL but that of a table of 0 cells, with which every call is refused, by 4 or 5 if by
  *     nothing before;
  *   - each pointer is aligned as its type asks;
@@ -119,8 +120,8 @@ uint32_t gyodaebeun_plan(uint32_t nodes, uint32_t slots, uint32_t rule,
  * who stores them can go on later.
  *
  * What is stored in it: by an accepted fresh the whole record, by an accepted post only posts, by an
- * accepted frame only frames; by a refused fresh nothing, by a refused post or frame nothing but, at
- * most, the same count again.
+ * accepted frame only frames; by a refused call nothing, so that a record that must not be written
+ * may be lent to one.
  *
  * A cell of the four tables counts slots of its pair:
  *

@@ -1,5 +1,5 @@
-// What each call of a run answers, on the record's values and the tables: the checks, what the tables hold then (`.._on`), and what the record
-// or its count is then (`started`, `.._after`).
+// What each call of a run answers, on the record's values and the tables: the checks, what the tables hold then (`.._on`), and what an accepted
+// call puts in the record (`started`, `.._after`).
 mod checks;
 pub mod frame;
 pub mod fresh;

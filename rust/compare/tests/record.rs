@@ -187,32 +187,43 @@ fn fresh(run: *mut Run, values: [u32; 4], tables: &mut Tables) -> u32 {
     }
 }
 
-/// A post stores posts alone, and a refused one no other count than was there.
+/// The whole record.
+const WHOLE: Shut = Shut::Before(size_of::<Run>());
+
+/// A post stores posts alone, and a refused one nothing at all.
 #[test]
 fn a_post_stores_its_count() {
     for shut in [
         Shut::Before(offset_of!(Run, posts)),
         Shut::From(offset_of!(Run, frames)),
     ] {
-        for &number in [0].iter().chain(POST) {
-            let (run, mut tables) = refused_by(number);
-            let lent = Parted::new(run, shut);
-            assert_eq!(post(lent.record, &mut tables), number, "{shut:?}");
-            let posts = run.posts + u32::from(number == 0);
-            assert_eq!(lent.held(), Run { posts, ..run }, "{number}, {shut:?}");
-        }
+        let (run, mut tables) = refused_by(0);
+        let lent = Parted::new(run, shut);
+        assert_eq!(post(lent.record, &mut tables), 0, "{shut:?}");
+        let posts = run.posts + 1;
+        assert_eq!(lent.held(), Run { posts, ..run }, "{shut:?}");
+    }
+    for &number in POST {
+        let (run, mut tables) = refused_by(number);
+        let lent = Parted::new(run, WHOLE);
+        assert_eq!(post(lent.record, &mut tables), number);
+        assert_eq!(lent.held(), run, "{number}");
     }
 }
 
-/// A frame stores frames alone, and a refused one no other count than was there.
+/// A frame stores frames alone, and a refused one nothing at all.
 #[test]
 fn a_frame_stores_its_count() {
-    for &number in [0].iter().chain(FRAME) {
+    let (run, mut tables) = refused_by(0);
+    let lent = Parted::new(run, Shut::Before(offset_of!(Run, frames)));
+    assert_eq!(frame(lent.record, &mut tables), 0);
+    let frames = run.frames + 1;
+    assert_eq!(lent.held(), Run { frames, ..run });
+    for &number in FRAME {
         let (run, mut tables) = refused_by(number);
-        let lent = Parted::new(run, Shut::Before(offset_of!(Run, frames)));
+        let lent = Parted::new(run, WHOLE);
         assert_eq!(frame(lent.record, &mut tables), number);
-        let frames = run.frames + u32::from(number == 0);
-        assert_eq!(lent.held(), Run { frames, ..run }, "{number}");
+        assert_eq!(lent.held(), run, "{number}");
     }
 }
 
@@ -242,7 +253,7 @@ fn a_fresh_start_stores_all_or_nothing() {
         let (shut, held) = if number == 0 {
             (Shut::From(size_of::<Run>()), started)
         } else {
-            (Shut::Before(size_of::<Run>()), run)
+            (WHOLE, run)
         };
         let lent = Parted::new(run, shut);
         assert_eq!(fresh(lent.record, values, &mut tables), number);

@@ -5,8 +5,7 @@ use crate::{Plan, Refusal, raw};
 /// on later.
 ///
 /// An accepted fresh start stores the whole record, an accepted post only `posts`, an accepted frame
-/// only `frames`. A refused fresh start stores nothing in it, a refused post or frame nothing but, at
-/// most, the same count again.
+/// only `frames`. A refused call stores nothing in it.
 #[repr(C)]
 #[derive(Clone, Copy, Debug, Default, PartialEq, Eq)]
 pub struct Run {
