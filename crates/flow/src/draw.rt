@@ -1,10 +1,10 @@
 // A matrix grows by drawing: a column that is reached and has room takes more of a row one level below, that row takes as much back from a
 // column one level below, and so on down to a row with room. Levels are searched anew when every column has drawn all that it could.
-use crate::numbers::larger;
-use crate::numbers::smaller;
 use levels::pairs::can_move;
 use levels::search::search;
 use star::lines::crossing;
+use star::numbers::larger;
+use star::numbers::smaller;
 use star::tables::get;
 use star::tables::put;
 ghost use mathlib.Core.Path.{_≡_};
@@ -60,8 +60,8 @@ fn draw_own(room: &mut [u32], line: usize, want: u32) -> u32
     x
 }
 
-// Draws what is wanted from a line of this level, as far as the levels below it have it, and says how much. A line that has no more loses its
-// mark, so that nobody asks it again.
+// Draws what is wanted from a line of this level, as far as the levels below it have it, and says how much. A line above level
+// 1 that has no more loses its mark, so that nobody asks it again; a row of level 1 keeps its own, and its room says what it still has.
 fn draw(
     n: usize,
     bound: &[u32],

@@ -1,6 +1,6 @@
 // A first matrix: each cell gets what its bound and the room of its two lines allow. Row i begins at column i, so that the rows do not all
 // spend the first columns' room.
-use crate::numbers::smaller;
+use star::numbers::smaller;
 use star::tables::get;
 use star::tables::put;
 ghost use Prim.Native.Nat.{_<_};

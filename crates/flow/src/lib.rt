@@ -1,7 +1,6 @@
 // The largest matrix below bounds whose line sums stay below limits, with the marks that prove it.
 mod draw;
 mod fill;
-mod numbers;
 
 use crate::draw::grow;
 use crate::fill::fill;
@@ -12,7 +11,7 @@ ghost use lib.ListN.{length};
 ghost use Rattle.flow.specs.Flows.{Feasible, Closed};
 ghost use Rattle.flow.specs.Certified.{Bounded, Certified};
 
-// The same on a matrix and marks of just the cells needed, with a table for the rooms.
+// What `largest` does, on a matrix and marks of just the cells needed, with a table for the rooms.
 fn largest_on(
     n: usize,
     bound: &[u32],

@@ -1,8 +1,8 @@
 // Filling a kept matrix up with idle slots until every line has one sum, the largest line sum of the matrix.
 use arrays::lists;
 use arrays::tables;
-ghost use mathlib.Core.Path.{_≡_};
-ghost use Prim.Native.Nat.{_*_, _<_, _≤_, min};
+use star::numbers::smaller;
+ghost use Prim.Native.Nat.{_*_, _<_, _≤_};
 ghost use lib.ListN.{length};
 ghost use Rattle.star.specs.Tables.{Square};
 ghost use Rattle.idle.specs.Idle.{Small, Copied, LineSums, Largest, Lacking, CanPad, PaddedAt, PaddedRow, PaddedAll, CanFill, Padded};
@@ -61,13 +61,6 @@ fn lacks(n: usize, lack: &mut [u16], r: u32)
         lists::put_number(lack, line, r - sum);
         line += 1;
     }
-}
-
-// The smaller of two numbers.
-fn smaller(a: u32, b: u32) -> u32
-    ensures { λ r. ⌜ r ≡ min a b ⌝ }
-{
-    if a < b { a } else { b }
 }
 
 // Gives the pair as many idle slots as its row and its column both lack.

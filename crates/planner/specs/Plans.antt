@@ -68,8 +68,8 @@ pub record Plan (n l rule : ℕ) (cap d kept withdrawn schedule : List ℕ) : Ty
   pub least : rule ≡ 1 → (Greatest n cap d withdrawn) × (take (n * n) kept ≡ keptFrom n cap d withdrawn)
   pub carried : Carries n l schedule kept
 
--- An accepted plan: the three tables hold one, are as long as before, and their further cells are as before; reported are the kept total, the refused total (D's total
--- minus the kept total) and the reconfigurations.
+-- An accepted plan: the three tables hold one, are as long as before, and their further cells are as before; reported are the kept total, the
+-- refused total (D's total minus the kept total) and the reconfigurations.
 pub record Wrote (n l rule : ℕ) (cap d kept withdrawn schedule kept' withdrawn' schedule' : List ℕ) (r : Answer) : Type 0 where
   pub plan : Plan n l rule cap d kept' withdrawn' schedule'
   pub kept-length : length kept' ≡ length kept

@@ -60,7 +60,8 @@ unfoldable pub check : (fires : Bool) (number place : ℕ) → Notice → Notice
 check true number place later = record { number = number; place = place }
 check false number place later = later
 
--- The same with the refusals by their names: the two say the same where each name has the number and the place that stand there.
+-- The same with refusals by their names. A chain of both says one thing, since a name has its number and its place (`in-numbers` in
+-- proofs/RefusalLaws.antt).
 unfoldable pub refuse : Bool → Refusal → Verdict → Verdict
 refuse true r later = Refused r
 refuse false r later = later
