@@ -6,13 +6,10 @@ use mathlib.Core.List.{List, [], _∷_}
 use Rattle.sums.specs.Searches.{firstBelow, firstFrom}
 use Rattle.sums.specs.Tables.{tab, written}
 use Rattle.star.specs.declared.refusals.Verdict.the-variants.{Accepted}
-use Rattle.star.specs.Refusals.{Notice, noticeOf, refuse, firstAbove}
+use Rattle.star.specs.Refusals.{Notice, notice, noticeOf, refuse, firstAbove}
 use Rattle.books.specs.Books.{booksAgree, firstDisagreeing}
 use Rattle.calls.specs.declared.record.Run.{Run}
 use Rattle.calls.specs.Runs.{freshVerdict, freshRun, cleared, postVerdict, postRun, postPosted, postDropped, postWaiting, frameVerdict, frameRun}
-
-abbrev notice : (number place : ℕ) → Notice
-notice number place = record { number = number; place = place }
 
 -- the record with N, L, B, the rule and the two counts
 abbrev held : (nodes slots limit rule posts frames : ℕ) → Run

@@ -6,17 +6,18 @@ use mathlib.Core.List.{List}
 use lib.IntN.{ℤ}
 use lib.ListN.{getD, take}
 use Rattle.star.specs.declared.refusals.Verdict.{Verdict}
-use Rattle.star.specs.Refusals.{noticeOf, verdictNumber, verdictPlace}
+use Rattle.star.specs.Refusals.{notice, noticeOf, verdictNumber, verdictPlace}
 use Rattle.slacks.proofs.SlacksTheorems.{slacks-theorems}
 use Rattle.planner.specs.declared.answers.Answer.{Answer}
 use Rattle.planner.specs.Plans.{verdictOf, keptTotal, refusedTotal}
 use Rattle.planner.proofs.PlanTheorems.{plan-theorems}
 use Rattle.calls.specs.declared.record.Run.{Run}
 use Rattle.calls.specs.Runs.{frameRun}
+use Rattle.run.specs.Held.{held}
 use Rattle.run.proofs.CallLaws.{fresh-theorems, post-theorems}
 use Rattle.run.proofs.FrameLaws.{frame-theorems}
 use Rattle.export.specs.Reports.{Reported, ReportedPlan}
-use Rattle.export.specs.Theorems.{notice, held, SlacksExported, PlanExported, FreshExported, PostExported, FrameExported, ExportTheorems}
+use Rattle.export.specs.Theorems.{SlacksExported, PlanExported, FreshExported, PostExported, FrameExported, ExportTheorems}
 
 -- number and place are those of the verdict, and of the answer
 module _ {promise : Verdict → Type 0} {r p : ℕ} (x : Reported promise r p) where

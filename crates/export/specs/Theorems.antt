@@ -7,23 +7,16 @@ use mathlib.Core.List.{List}
 use lib.IntN.{ℤ}
 use lib.ListN.{length, getD, take}
 use Rattle.star.specs.declared.refusals.Verdict.{Verdict}
-use Rattle.star.specs.Refusals.{Notice}
+use Rattle.star.specs.Refusals.{notice}
 use Rattle.slacks.specs.Slacks.{slacksNotice, SlacksResult}
 use Rattle.planner.specs.declared.answers.Answer.{Answer}
 use Rattle.planner.specs.Plans.{verdictOf, planNotice, PlanResult}
 use Rattle.planner.specs.Theorems.{Agree}
 use Rattle.calls.specs.declared.record.Run.{Run}
 use Rattle.calls.specs.Runs.{freshNotice, Freshened, freshRun, postNotice, Posted, postRun, frameNotice, Framed, frameRun}
-use Rattle.run.specs.Held.{Held, FreshCall, PostCall, FrameCall}
+use Rattle.run.specs.Held.{held, FreshCall, PostCall, FrameCall}
 use Rattle.run.specs.Theorems.{FramesAgree}
 use Rattle.export.specs.Reports.{Reported, ReportedPlan}
-
-abbrev pub notice : (number place : ℕ) → Notice
-notice number place = record { number = number; place = place }
-
--- what is held between the calls of a run
-abbrev pub held : (run : Run) (waiting posted sent dropped : List ℕ) → Held
-held run waiting posted sent dropped = record { run = run; waiting = waiting; posted = posted; sent = sent; dropped = dropped }
 
 pub record SlacksExported (n l : ℕ) (d : List ℕ) (table : List ℤ) : Type 0 where
   pub numbers : (table' : List ℤ) (r p : ℕ) → Reported (SlacksResult n l d table table') r p → notice r p ≡ slacksNotice n l d (length table)

@@ -5,12 +5,9 @@ use mathlib.Core.Path.{_≡_, refl}
 use mathlib.Core.List.{List, [], _∷_}
 use Rattle.sums.specs.Searches.{firstBelow, firstFrom}
 use Rattle.star.specs.declared.refusals.Refusal.the-variants.{DemandAbove}
-use Rattle.star.specs.Refusals.{Notice, noticeOf, refuse, firstAbove}
+use Rattle.star.specs.Refusals.{Notice, notice, noticeOf, refuse, firstAbove}
 use Rattle.planner.specs.declared.answers.Answer.the-variants.{Planned, Refused}
 use Rattle.planner.specs.Plans.{verdictOf, keptTotal, refusedTotal, changes, planVerdict}
-
-abbrev notice : (number place : ℕ) → Notice
-notice number place = record { number = number; place = place }
 
 -- given how many cells kept, withdrawn and schedule have
 abbrev plan : (n l rule : ℕ) (d : List ℕ) (kept withdrawn schedule : ℕ) → Notice

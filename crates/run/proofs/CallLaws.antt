@@ -15,7 +15,7 @@ use Rattle.books.specs.Rooms.{Tables}
 use Rattle.calls.specs.declared.record.Run.{Run}
 use Rattle.calls.specs.Runs.{freshVerdict, freshRun, cleared, postVerdict, postRun, postPosted, postDropped, postWaiting}
 use Rattle.calls.proofs.Verdicts.{InOrder, fresh-accepts, fresh-accepted, post-accepts, post-accepted, alike-posts}
-use Rattle.run.specs.Held.{Held, Roomy, FreshCall, PostCall}
+use Rattle.run.specs.Held.{Held, held, Roomy, FreshCall, PostCall}
 use Rattle.run.specs.Theorems.{Ready, HeldAlike, SameLengths, FreshTheorems, PostTheorems}
 
 -- ---- a table that was written anew
@@ -34,9 +34,6 @@ pub longer-by : (m : ℕ) (f : ℕ → ℕ) (old : List ℕ) → m ≤ length ol
 longer-by m f old room = written-length m (tab m f) old (length-tab f m) room
 
 -- ---- what is held, as one thing
-abbrev pub held : (run : Run) (waiting posted sent dropped : List ℕ) → Held
-held run waiting posted sent dropped = record { run = run; waiting = waiting; posted = posted; sent = sent; dropped = dropped }
-
 pub held-same : {r r' : Run} {w w' p p' s s' d d' : List ℕ} → r ≡ r' → w ≡ w' → p ≡ p' → s ≡ s' → d ≡ d' → held r w p s d ≡ held r' w' p' s' d'
 held-same {r' = r'} {w = w} {w' = w'} {p = p} {p' = p'} {s = s} {s' = s'} {d = d} er ew ep es ed =
     ap (λ x. held x w p s d) er ∙ ap (λ x. held r' x p s d) ew ∙ ap (λ x. held r' w' x s d) ep ∙ ap (λ x. held r' w' p' x d) es ∙ ap (λ x. held r' w' p' s' x) ed

@@ -7,15 +7,12 @@ use Rattle.sums.specs.Sums.{sumTo}
 use Rattle.sums.specs.Searches.{firstBelow, firstFrom}
 use Rattle.sums.specs.Tables.{cell, tab, written}
 use Rattle.star.specs.declared.refusals.Verdict.the-variants.{Accepted}
-use Rattle.star.specs.Refusals.{Notice, noticeOf, refuse, firstAbove}
+use Rattle.star.specs.Refusals.{Notice, notice, noticeOf, refuse, firstAbove}
 use Rattle.star.specs.Lines.{slack, wholeFrame, lineSum, onLine, sourceOn, destinationOn}
 use Rattle.slacks.specs.Slacks.{slacksVerdict, slacksAfter}
 
 abbrev given : (n l : ℕ) (d : List ℕ) (room : ℕ) → Notice
 given n l d room = noticeOf (slacksVerdict n l d room)
-
-abbrev notice : (number place : ℕ) → Notice
-notice number place = record { number = number; place = place }
 
 pub record Refusals : Type 0 where
   -- case o: N 0 and L 0 together: 1. N 65: 1. L 1,025: 2.

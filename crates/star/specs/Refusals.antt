@@ -48,16 +48,19 @@ pub record Notice : Type 0 where
   pub number : ℕ
   pub place : ℕ
 
+abbrev pub notice : (number place : ℕ) → Notice
+notice number place = record { number = number; place = place }
+
 abbrev pub noticeOf : Verdict → Notice
-noticeOf v = record { number = verdictNumber v; place = verdictPlace v }
+noticeOf v = notice (verdictNumber v) (verdictPlace v)
 
 -- An accepted call reports number 0 and place 0.
 abbrev pub accepted : Notice
-accepted = record { number = 0; place = 0 }
+accepted = notice 0 0
 
 -- The first that fires is given: a check's own number and place where it fires, and else what the later checks give.
 unfoldable pub check : (fires : Bool) (number place : ℕ) → Notice → Notice
-check true number place later = record { number = number; place = place }
+check true number place later = notice number place
 check false number place later = later
 
 -- The same with refusals by their names. A chain of both says one thing, since a name has its number and its place (`in-numbers` in

@@ -27,8 +27,8 @@ use Rattle.calls.specs.declared.record.Run.{Run}
 use Rattle.books.specs.Books.{booksAgree, firstDisagreeing}
 use Rattle.calls.specs.Runs.{freshVerdict, freshNotice, freshRun, cleared, postVerdict, postNotice, postRun, postPosted, postDropped, postWaiting, frameVerdict, frameRun}
 use Rattle.calls.proofs.Outcomes.{frame-notice}
-use Rattle.run.specs.Held.{Held, FreshCall, PostCall, FrameCall}
-use Rattle.run.proofs.CallLaws.{held, held-same}
+use Rattle.run.specs.Held.{Held, held, FreshCall, PostCall, FrameCall}
+use Rattle.run.proofs.CallLaws.{held-same}
 use Rattle.worked.specs.Worked.{RunLine, start}
 use Rattle.worked.proofs.Marks.{by-marks}
 
