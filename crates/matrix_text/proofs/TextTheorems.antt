@@ -7,15 +7,15 @@ use mathlib.Core.Bool.{Bool, true, false}
 use mathlib.Core.List.{List, [], _∷_, _++_}
 use mathlib.Core.Option.{Option, none, some}
 use lib.Dec.{ltb, eqb}
-use lib.ListN.{length, getD, take, drop}
+use lib.ListN.{length, drop}
 use lib.Seq.{drop-drop, drop-append-add}
 use borrow.Author.Tests.{ltb-false, le-ltb, eqb-true, eq-eqb}
 use Rattle.sums.specs.Tables.{cell, written}
 use Rattle.sums.proofs.Tables.{first-cells}
 use Rattle.star.specs.declared.refusals.Refusal.{Refusal}
 use Rattle.star.specs.declared.refusals.Refusal.the-variants.{Nodes, Slots, Rule, DemandAbove}
-use Rattle.star.specs.Refusals.{outside, firstAbove}
-use Rattle.star.specs.Lines.{total, wholeFrame}
+use Rattle.star.specs.Refusals.{firstAbove}
+use Rattle.star.specs.Lines.{total}
 use Rattle.star.proofs.LineLaws.{total-ext}
 use Rattle.star.proofs.RefusalLaws.{in-its-range, inside, within-range, none-above}
 use Rattle.planner.proofs.NeededLaws.{least-total}

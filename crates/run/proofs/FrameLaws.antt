@@ -1,6 +1,6 @@
 -- The theorems on frames. An accepted frame has passed all checks of a plan, since no queue is longer than B; two such frames then agree as plans
 -- do, and what waits and what was sent follows from kept. Assumes nothing.
-use Prim.Native.Nat.{ℕ, _+_, _-_, _*_, _≤_, _<_}
+use Prim.Native.Nat.{ℕ, _+_, _-_, _*_, _≤_}
 use native.Mathlib.Omega.{arith}
 use mathlib.Core.Path.{_≡_, refl, sym, _∙_, ap}
 use mathlib.Core.List.{List}

@@ -2,5 +2,6 @@
 pub mod SentLaws
 pub mod CallLaws
 pub mod FrameLaws
+pub mod Moments
 pub mod HistoryLaws
 pub mod LetElse
