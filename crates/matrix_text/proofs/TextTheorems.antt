@@ -22,7 +22,7 @@ use Rattle.planner.proofs.NeededLaws.{least-total}
 use Rattle.number_list.specs.Input.{listOf}
 use Rattle.matrix_text.specs.Text.{decimal, joinTo, headText, totalsText, markAfter, cellText, rowText, rowsText, planText}
 use Rattle.matrix_text.specs.Outcomes.{Outcome, BadInput, Refuses, Plans, orElse, judge, judgeList, outcome, outcomeText, Prints, Answered}
-use Rattle.matrix_text.specs.Theorems.{Same, LeastText, Agree, InOrder, TextTheorems}
+use Rattle.matrix_text.specs.Theorems.{Same, LeastText, TextsAgree, InOrder, TextTheorems}
 use Rattle.matrix_text.proofs.OutcomeLaws.{left}
 
 -- ---- kept matrices with the same cells print the same text
@@ -85,7 +85,7 @@ module _ (input out out₁ out₂ : List ℕ) (r₁ r₂ : ℕ) (a : Answered in
     ends = a .end ∙ ap length e ∙ sym (b .end);
   }
 
-  text-unique : Agree (outcome input) (a .text) out₁ r₁ (b .text) out₂ r₂
+  text-unique : TextsAgree (outcome input) (a .text) out₁ r₁ (b .text) out₂ r₂
   text-unique = record {
     bad = λ e. same (bad-text e (a .prints) (b .prints));
     refused = λ x e. same (refusal-text x e (a .prints) (b .prints));

@@ -36,7 +36,7 @@ pub record SameButRows (n l : ℕ) (d text₁ out₁ : List ℕ) (r₁ : ℕ) (t
 
 -- Two answers to one input agree: where it is bad input, refused or planned under the fair rule, in everything; where it is planned under the least
 -- rule, in all but the kept rows. What is left is listed in docs/FREEDOMS.md.
-pub record Agree (o : Outcome) (text₁ out₁ : List ℕ) (r₁ : ℕ) (text₂ out₂ : List ℕ) (r₂ : ℕ) : Type 0 where
+pub record TextsAgree (o : Outcome) (text₁ out₁ : List ℕ) (r₁ : ℕ) (text₂ out₂ : List ℕ) (r₂ : ℕ) : Type 0 where
   pub bad : o ≡ BadInput → Same text₁ out₁ r₁ text₂ out₂ r₂
   pub refused : (x : Refusal) → o ≡ Refuses x → Same text₁ out₁ r₁ text₂ out₂ r₂
   pub fair : (n l : ℕ) (d : List ℕ) → o ≡ Plans n l 0 d → Same text₁ out₁ r₁ text₂ out₂ r₂
@@ -55,6 +55,6 @@ pub record InOrder (input : List ℕ) (n l rule : ℕ) (d : List ℕ) : Type 0 w
 -- all of it: two answers agree, and just the inputs in order are planned, so that the rule of a plan is 0 or 1
 pub record TextTheorems : Type 0 where
   pub unique : (input out out₁ out₂ : List ℕ) (r₁ r₂ : ℕ) (a : Answered input out out₁ r₁) (b : Answered input out out₂ r₂) →
-      Agree (outcome input) (a .text) out₁ r₁ (b .text) out₂ r₂
+      TextsAgree (outcome input) (a .text) out₁ r₁ (b .text) out₂ r₂
   pub planned : (input : List ℕ) (n l rule : ℕ) (d : List ℕ) → InOrder input n l rule d → outcome input ≡ Plans n l rule d
   pub only : (input : List ℕ) (n l rule : ℕ) (d : List ℕ) → outcome input ≡ Plans n l rule d → InOrder input n l rule d

@@ -15,8 +15,8 @@ use Rattle.books.specs.Rooms.{Tables}
 use Rattle.calls.specs.declared.record.Run.{Run}
 use Rattle.calls.specs.Runs.{freshVerdict, freshRun, cleared, postVerdict, postRun, postPosted, postDropped, postWaiting}
 use Rattle.calls.proofs.Verdicts.{InOrder, fresh-accepts, fresh-accepted, post-accepts, post-accepted, alike-posts}
-use Rattle.run.specs.Held.{Held, held, Roomy, FreshCall, PostCall}
-use Rattle.run.specs.Theorems.{Ready, HeldAlike, SameLengths, FreshTheorems, PostTheorems}
+use Rattle.run.specs.Held.{Held, held, LongEnough, FreshCall, PostCall}
+use Rattle.run.specs.Theorems.{Callable, HeldAlike, SameLengths, FreshTheorems, PostTheorems}
 
 -- ---- a table that was written anew
 -- two tables written with the same are alike
@@ -30,8 +30,8 @@ alike-new m new x y fits = record {
 pub alike-by : (m : ℕ) (f g : ℕ → ℕ) (x y : List ℕ) → ((p : ℕ) → p < m → f p ≡ g p) → Alike m (written m (tab m f) x) (written m (tab m g) y)
 alike-by m f g x y same = rw (tab-ext m f g same) (alike-new m (tab m g) x y (length-tab g m))
 
-pub longer-by : (m : ℕ) (f : ℕ → ℕ) (old : List ℕ) → m ≤ length old → length (written m (tab m f) old) ≡ length old
-longer-by m f old room = written-length m (tab m f) old (length-tab f m) room
+pub length-by : (m : ℕ) (f : ℕ → ℕ) (old : List ℕ) → m ≤ length old → length (written m (tab m f) old) ≡ length old
+length-by m f old room = written-length m (tab m f) old (length-tab f m) room
 
 -- ---- what is held, as one thing
 pub held-same : {r r' : Run} {w w' p p' s s' d d' : List ℕ} → r ≡ r' → w ≡ w' → p ≡ p' → s ≡ s' → d ≡ d' → held r w p s d ≡ held r' w' p' s' d'
@@ -52,8 +52,8 @@ module _ {n l limit rule : ℕ} {h h' : Held} where
   unfolding freshRun cleared
   fresh-unchanged c = held-same (sym (c .record')) (sym (c .tables .now-waiting)) (sym (c .tables .now-posted)) (sym (c .tables .now-sent)) (sym (c .tables .now-dropped))
 
-  fresh-roomy : FreshCall n l limit rule h h' Accepted → Roomy n h
-  fresh-roomy c =
+  fresh-long-enough : FreshCall n l limit rule h h' Accepted → LongEnough n h
+  fresh-long-enough c =
       let t = fresh-accepted n l limit rule (h .waiting) (h .posted) (h .sent) (h .dropped) (sym (c .tables .answer)) .1 in
       record { waiting = t .queues .cells; posted = t .postings .cells; sent = t .sendings .cells; dropped = t .drops .cells }
 
@@ -62,7 +62,7 @@ module _ {n l limit rule : ℕ} {h h' : Held} where
   fresh-lengths (Refused x) c = lengths-same (fresh-unchanged c)
   fresh-lengths Accepted c =
       let zeros = length-replicate {A = ℕ} (n * n) 0 in
-      let room = fresh-roomy c in
+      let room = fresh-long-enough c in
       record {
         waiting = ap length (c .tables .now-waiting) ∙ written-length (n * n) _ (h .waiting) zeros (room .waiting);
         posted = ap length (c .tables .now-posted) ∙ written-length (n * n) _ (h .posted) zeros (room .posted);
@@ -70,7 +70,7 @@ module _ {n l limit rule : ℕ} {h h' : Held} where
         dropped = ap length (c .tables .now-dropped) ∙ written-length (n * n) _ (h .dropped) zeros (room .dropped);
       }
 
-fresh-verdict : {n l limit rule : ℕ} {h h' k k' : Held} {v₁ v₂ : Verdict} → FreshCall n l limit rule h h' v₁ → FreshCall n l limit rule k k' v₂ → Roomy n h → Roomy n k → v₁ ≡ v₂
+fresh-verdict : {n l limit rule : ℕ} {h h' k k' : Held} {v₁ v₂ : Verdict} → FreshCall n l limit rule h h' v₁ → FreshCall n l limit rule k k' v₂ → LongEnough n h → LongEnough n k → v₁ ≡ v₂
 unfolding freshVerdict
 fresh-verdict c d a b = c .tables .answer ∙ rw (both-long (a .waiting) (b .waiting), both-long (a .posted) (b .posted), both-long (a .sent) (b .sent), both-long (a .dropped) (b .dropped)) refl ∙ sym (d .tables .answer)
 
@@ -120,10 +120,10 @@ module _ {arrivals : List ℕ} {h h' : Held} where
   post-lengths Accepted c =
       let t = post-accepted (h .run) arrivals (h .waiting) (h .posted) (h .sent) (h .dropped) (sym (c .tables .answer)) .tables in
       record {
-        waiting = ap length (c .tables .now-waiting) ∙ longer-by _ _ (h .waiting) (t .queues .cells);
-        posted = ap length (c .tables .now-posted) ∙ longer-by _ _ (h .posted) (t .postings .cells);
+        waiting = ap length (c .tables .now-waiting) ∙ length-by _ _ (h .waiting) (t .queues .cells);
+        posted = ap length (c .tables .now-posted) ∙ length-by _ _ (h .posted) (t .postings .cells);
         sent = ap length (c .same-sent);
-        dropped = ap length (c .tables .now-dropped) ∙ longer-by _ _ (h .dropped) (t .drops .cells);
+        dropped = ap length (c .tables .now-dropped) ∙ length-by _ _ (h .dropped) (t .drops .cells);
       }
 
 module _ (a b : List ℕ) (h h' k k' : Held) (alike : Alike (h .run .nodes * h .run .nodes) a b) (same : HeldAlike (h .run .nodes) h k) where
@@ -147,18 +147,18 @@ module _ (a b : List ℕ) (h h' k k' : Held) (alike : Alike (h .run .nodes * h .
       ∙ ap (λ r. postVerdict r b (k .waiting) (k .posted) (k .sent) (k .dropped)) (same .run)
       ∙ sym (d .tables .answer)
 
--- what is ready has passed a run's checks
-pub ready-tables : {h : Held} → Ready h → Tables (h .run .nodes) (h .waiting) (h .posted) (h .sent) (h .dropped)
-ready-tables r = record {
-  queues = record { nodes = r .ranges .nodes; cells = r .roomy .waiting };
-  postings = record { nodes = r .ranges .nodes; cells = r .roomy .posted };
-  sendings = record { nodes = r .ranges .nodes; cells = r .roomy .sent };
-  drops = record { nodes = r .ranges .nodes; cells = r .roomy .dropped };
+-- what is held as a call asks has passed a run's checks
+pub callable-tables : {h : Held} → Callable h → Tables (h .run .nodes) (h .waiting) (h .posted) (h .sent) (h .dropped)
+callable-tables r = record {
+  queues = record { nodes = r .ranges .nodes; cells = r .long-enough .waiting };
+  postings = record { nodes = r .ranges .nodes; cells = r .long-enough .posted };
+  sendings = record { nodes = r .ranges .nodes; cells = r .long-enough .sent };
+  drops = record { nodes = r .ranges .nodes; cells = r .long-enough .dropped };
 }
 
-pub ready-order : {h : Held} → Ready h → {calls : ℕ} → calls < 1000000 → InOrder (h .run .nodes) (h .run .limit) (h .run .posts) calls (h .waiting) (h .posted) (h .sent) (h .dropped)
-ready-order r few = record {
-  books = λ p lt. record { short-enough = r .settled .queued p lt; balance = r .settled .balanced p lt; possible = r .settled .possible p lt };
+pub callable-order : {h : Held} → Callable h → {calls : ℕ} → calls < 1000000 → InOrder (h .run .nodes) (h .run .limit) (h .run .posts) calls (h .waiting) (h .posted) (h .sent) (h .dropped)
+callable-order r few = record {
+  books = λ p lt. record { short-enough = r .books-in-order .queued p lt; balance = r .books-in-order .balanced p lt; possible = r .books-in-order .possible p lt };
   few = few;
 }
 
@@ -169,8 +169,8 @@ post-theorems = record {
       ∙ sym (post-accepts (h .run) arrivals (h .waiting) (h .posted) (h .sent) (h .dropped) (record {
         ranges = r .ranges;
         given = record { nodes = r .ranges .nodes; cells = cells };
-        tables = ready-tables r;
-        order = ready-order r few;
+        tables = callable-tables r;
+        order = callable-order r few;
         within = record { most = most };
       }));
   unique = λ arrivals h h₁ h₂ v₁ v₂ c d.

@@ -10,7 +10,7 @@ use Rattle.star.specs.declared.refusals.Refusal.{Refusal}
 use Rattle.star.specs.declared.refusals.Verdict.the-variants.{Accepted}
 use Rattle.star.specs.Refusals.{noticeOf}
 use Rattle.star.proofs.RefusalLaws.{never}
-use Rattle.star.proofs.AlikeLaws.{first-at, alike-at}
+use Rattle.star.proofs.AlikeLaws.{same-first, alike-at}
 use Rattle.planner.specs.declared.answers.Answer.{Answer}
 use Rattle.planner.specs.declared.answers.Answer.the-variants as answer
 use Rattle.planner.specs.Plans.{verdictOf, PlanResult}
@@ -22,7 +22,7 @@ use Rattle.calls.specs.Runs.{frameVerdict, frameRun, Framed}
 use Rattle.calls.proofs.Verdicts.{frame-accepts, frame-accepted, alike-frames}
 use Rattle.run.specs.Held.{Held, FrameCall}
 use Rattle.run.specs.Theorems.{HeldAlike, SameLengths, FramesAgree, FramesAgreeAsNeeded, FrameTheorems}
-use Rattle.run.proofs.CallLaws.{alike-by, longer-by, held-same, lengths-same, alike-same, ready-tables, ready-order}
+use Rattle.run.proofs.CallLaws.{alike-by, length-by, held-same, lengths-same, alike-same, callable-tables, callable-order}
 
 pub frame-planned : (old : Run) (w p s d k a q w' s' k' a' q' : List ℕ) (r : Answer) → Framed old w p s d k a q w' s' k' a' q' r → verdictOf r ≡ Accepted →
     PlanResult (old .nodes) (old .slots) (old .rule) w k a q k' a' q' r
@@ -107,9 +107,9 @@ module _ {k a q k' a' q' : List ℕ} {h h' : Held} where
       let t = frame-accepted (h .run) (h .waiting) (h .posted) (h .sent) (h .dropped) (length k) (length a) (length q) (sym (c .tables .answer)) .tables in
       let w = c .tables .accepted refl in (
         record {
-          waiting = ap length (c .tables .now-waiting refl) ∙ longer-by _ _ (h .waiting) (t .queues .cells);
+          waiting = ap length (c .tables .now-waiting refl) ∙ length-by _ _ (h .waiting) (t .queues .cells);
           posted = ap length (c .same-posted);
-          sent = ap length (c .tables .now-sent refl) ∙ longer-by _ _ (h .sent) (t .sendings .cells);
+          sent = ap length (c .tables .now-sent refl) ∙ length-by _ _ (h .sent) (t .sendings .cells);
           dropped = ap length (c .same-dropped);
         },
         w .kept-length,
@@ -127,9 +127,9 @@ module _ (k a q k₁ a₁ q₁ x b t k₂ a₂ q₂ : List ℕ) (h h' g g' : Hel
     held-then : take m k₁ ≡ take m k₂ → HeldAlike (h .run .nodes) h' g'
     held-then e = record {
       run = c .record' ∙ ap (frameRun (h .run)) (ok₁ ∙ sym ok₂) ∙ ap (λ r. frameRun r (verdictOf r₂)) (same .run) ∙ sym (d .record');
-      waiting = rw (c .tables .now-waiting ok₁, d .tables .now-waiting ok₂, sym (same .run)) (alike-by m _ _ (h .waiting) (g .waiting) (λ p lt. rw (alike-at (same .waiting) p lt, first-at m k₁ k₂ e p lt) refl));
+      waiting = rw (c .tables .now-waiting ok₁, d .tables .now-waiting ok₂, sym (same .run)) (alike-by m _ _ (h .waiting) (g .waiting) (λ p lt. rw (alike-at (same .waiting) p lt, same-first m k₁ k₂ e p lt) refl));
       posted = rw (c .same-posted, d .same-posted) (same .posted);
-      sent = rw (c .tables .now-sent ok₁, d .tables .now-sent ok₂, sym (same .run)) (alike-by m _ _ (h .sent) (g .sent) (λ p lt. rw (alike-at (same .sent) p lt, first-at m k₁ k₂ e p lt) refl));
+      sent = rw (c .tables .now-sent ok₁, d .tables .now-sent ok₂, sym (same .run)) (alike-by m _ _ (h .sent) (g .sent) (λ p lt. rw (alike-at (same .sent) p lt, same-first m k₁ k₂ e p lt) refl));
       dropped = rw (c .same-dropped, d .same-dropped) (same .dropped);
     }
 
@@ -181,15 +181,15 @@ module _ (k a q k₁ a₁ q₁ x b t k₂ a₂ q₂ : List ℕ) (h h' g g' : Hel
 
 pub frame-theorems : FrameTheorems
 frame-theorems = record {
-  accepts = λ k a q k' a' q' h h' r c ready kept withdrawn schedule few.
+  accepts = λ k a q k' a' q' h h' r c callable kept withdrawn schedule few.
       c .tables .answer
       ∙ sym (frame-accepts (h .run) (h .waiting) (h .posted) (h .sent) (h .dropped) (length k) (length a) (length q) (record {
-        ranges = ready .ranges;
-        tables = ready-tables ready;
+        ranges = callable .ranges;
+        tables = callable-tables callable;
         kept-room = kept;
         withdrawn-room = withdrawn;
         schedule-room = schedule;
-        order = ready-order ready few;
+        order = callable-order callable few;
       }));
   planned = frame-planned;
   unique = frame-unique;

@@ -138,7 +138,7 @@ module _ {n l limit rule : ℕ} where
     rules = now .rules;
     posts = now .posts;
     frames = now .frames;
-    roomy = now .roomy;
+    long-enough = now .long-enough;
     balance = λ i j hi hj. omega (arith, now .posted i j hi hj, now .sent i j hi hj, now .dropped i j hi hj, now .waiting i j hi hj, now .balance i j hi hj);
     posted = now .posted;
     sent = now .sent;

@@ -17,7 +17,7 @@ use Rattle.planner.specs.declared.answers.Answer.the-variants as answer
 use Rattle.planner.specs.Plans.{Wrote}
 use Rattle.calls.specs.Runs.{freshRun, cleared, postRun, postPosted, postDropped, postWaiting, frameRun}
 use Rattle.calls.specs.Checks.{Ranges}
-use Rattle.run.specs.Held.{Held, Roomy, FreshCall, PostCall, FrameCall}
+use Rattle.run.specs.Held.{Held, LongEnough, FreshCall, PostCall, FrameCall}
 use Rattle.run.specs.Histories.{Lent, Event, posting, framing, restarting, Happens, History, started, continued, arrived, carried, queue, exceeded, postsOf, framesOf}
 use Rattle.calls.proofs.Verdicts.{fresh-accepted, post-accepted}
 use Rattle.planner.proofs.PlanLaws.{plan-below}
@@ -41,7 +41,7 @@ new-room m f old e = rw e (written-room m (tab m f) old (length-tab f m))
 -- ---- what holds at a moment
 pub record Now (n l limit rule : ℕ) (es : List Event) (h : Held) : Type 0 where
   pub ranges : Ranges n l rule limit
-  pub roomy : Roomy n h
+  pub long-enough : LongEnough n h
   pub nodes : h .run .nodes ≡ n
   pub slots : h .run .slots ≡ l
   pub room : h .run .limit ≡ limit
@@ -70,7 +70,7 @@ module _ {n l limit rule : ℕ} {h h' : Held} (c : FreshCall n l limit rule h h'
   unfolding freshRun arrived carried queue exceeded postsOf framesOf
   now-started = record {
     ranges = fresh-accepted n l limit rule (h .waiting) (h .posted) (h .sent) (h .dropped) (sym (c .tables .answer)) .0;
-    roomy = record {
+    long-enough = record {
       waiting = start-room (h .waiting) (c .tables .now-waiting);
       posted = start-room (h .posted) (c .tables .now-posted);
       sent = start-room (h .sent) (c .tables .now-sent);
@@ -137,7 +137,7 @@ module _ (n l limit : ℕ) (es : List Event) where
 now-unmoved : {n l limit rule : ℕ} {e : Event} {es : List Event} {h h' : Held} → Unmoved n l limit e es → h ≡ h' → Now n l limit rule es h → Now n l limit rule (e ∷ es) h'
 now-unmoved {n} {l} {limit} {rule} {e} {es} {h} u same now = subst (λ k. Now n l limit rule (e ∷ es) k) same (record {
   ranges = now .ranges;
-  roomy = now .roomy;
+  long-enough = now .long-enough;
   nodes = now .nodes;
   slots = now .slots;
   room = now .room;
@@ -181,10 +181,10 @@ module _ {n l limit rule : ℕ} {es : List Event} {arrivals : List ℕ} {h h' : 
     unfolding postRun postWaiting postPosted postDropped arrived carried queue exceeded postsOf framesOf
     now-posted = record {
       ranges = now .ranges;
-      roomy = record {
+      long-enough = record {
         waiting = new-room _ _ _ (rw (now .nodes) at (c .tables .now-waiting));
         posted = new-room _ _ _ (rw (now .nodes) at (c .tables .now-posted));
-        sent = rw (c .same-sent) (now .roomy .sent);
+        sent = rw (c .same-sent) (now .long-enough .sent);
         dropped = new-room _ _ _ (rw (now .nodes) at (c .tables .now-dropped));
       };
       nodes = ap (λ r. r .nodes) (c .record') ∙ now .nodes;
@@ -230,11 +230,11 @@ module _ {n l limit rule : ℕ} {es : List Event} (lent plan : Lent) {h h' : Hel
     unfolding frameRun arrived carried queue exceeded postsOf framesOf
     now-framed = record {
       ranges = now .ranges;
-      roomy = record {
+      long-enough = record {
         waiting = new-room _ _ _ (rw (now .nodes) at (c .tables .now-waiting refl));
-        posted = rw (c .same-posted) (now .roomy .posted);
+        posted = rw (c .same-posted) (now .long-enough .posted);
         sent = new-room _ _ _ (rw (now .nodes) at (c .tables .now-sent refl));
-        dropped = rw (c .same-dropped) (now .roomy .dropped);
+        dropped = rw (c .same-dropped) (now .long-enough .dropped);
       };
       nodes = ap (λ r. r .nodes) (c .record') ∙ now .nodes;
       slots = ap (λ r. r .slots) (c .record') ∙ now .slots;

@@ -21,7 +21,7 @@ abbrev pub held : (run : Run) (waiting posted sent dropped : List ℕ) → Held
 held run waiting posted sent dropped = record { run = run; waiting = waiting; posted = posted; sent = sent; dropped = dropped }
 
 -- each of the four tables has a cell for each pair
-pub record Roomy (n : ℕ) (h : Held) : Type 0 where
+pub record LongEnough (n : ℕ) (h : Held) : Type 0 where
   pub waiting : n * n ≤ length (h .waiting)
   pub posted : n * n ≤ length (h .posted)
   pub sent : n * n ≤ length (h .sent)

@@ -13,7 +13,7 @@ use Rattle.star.specs.Schedules.{ConflictFree, count}
 use Rattle.planner.specs.declared.answers.Answer.{Answer}
 use Rattle.planner.specs.Plans.{verdictOf}
 use Rattle.books.specs.Books.{firstDisagreeing}
-use Rattle.run.specs.Held.{Held, Roomy, FreshCall, PostCall, FrameCall}
+use Rattle.run.specs.Held.{Held, LongEnough, FreshCall, PostCall, FrameCall}
 
 -- the three tables lent to a frame
 pub record Lent : Type 0 where
@@ -119,7 +119,7 @@ pub record BooksHold (n l limit rule : ℕ) (es : List Event) (h : Held) : Type 
   pub posts : h .run .posts ≡ postsOf es
   pub frames : h .run .frames ≡ framesOf es
   -- the tables are as long as the run needs them
-  pub roomy : Roomy n h
+  pub long-enough : LongEnough n h
   -- nothing is lost: posted = sent + dropped + waiting
   pub balance : (i j : ℕ) → i < n → j < n → cell n (h .posted) i j ≡ cell n (h .sent) i j + cell n (h .dropped) i j + cell n (h .waiting) i j
   -- each of the four is read off posts and schedules

@@ -12,20 +12,20 @@ use Rattle.planner.specs.Plans.{verdictOf, keptTotal, refusedTotal, PlanResult}
 use Rattle.calls.specs.declared.record.Run.{Run}
 use Rattle.calls.specs.Checks.{Ranges}
 use Rattle.calls.specs.Runs.{Framed}
-use Rattle.run.specs.Held.{Held, Roomy, FreshCall, PostCall, FrameCall}
+use Rattle.run.specs.Held.{Held, LongEnough, FreshCall, PostCall, FrameCall}
 
 -- ---- what is asked of a call that is to be accepted, in plain inequalities
 -- the books of each pair agree
-pub record Settled (n : ℕ) (h : Held) : Type 0 where
+pub record BooksInOrder (n : ℕ) (h : Held) : Type 0 where
   pub queued : (p : ℕ) → p < n * n → getD (h .waiting) p 0 ≤ h .run .limit
   pub balanced : (p : ℕ) → p < n * n → getD (h .posted) p 0 ≡ getD (h .waiting) p 0 + getD (h .sent) p 0 + getD (h .dropped) p 0
   pub possible : (p : ℕ) → p < n * n → getD (h .posted) p 0 ≤ 65535 * h .run .posts
 
 -- numbers in their ranges, tables that are long enough, books that agree
-pub record Ready (h : Held) : Type 0 where
+pub record Callable (h : Held) : Type 0 where
   pub ranges : Ranges (h .run .nodes) (h .run .slots) (h .run .rule) (h .run .limit)
-  pub roomy : Roomy (h .run .nodes) h
-  pub settled : Settled (h .run .nodes) h
+  pub long-enough : LongEnough (h .run .nodes) h
+  pub books-in-order : BooksInOrder (h .run .nodes) h
 
 -- ---- tables that agree as far as they are needed
 pub record HeldAlike (n : ℕ) (h k : Held) : Type 0 where
@@ -44,15 +44,15 @@ pub record SameLengths (h h' : Held) : Type 0 where
 
 -- ---- fresh: what is in order is accepted; two results on the same input are one; cells that are not needed do not matter
 pub record FreshTheorems : Type 0 where
-  pub accepts : (n l limit rule : ℕ) (h h' : Held) (v : Verdict) → FreshCall n l limit rule h h' v → Ranges n l rule limit → Roomy n h → v ≡ Accepted
+  pub accepts : (n l limit rule : ℕ) (h h' : Held) (v : Verdict) → FreshCall n l limit rule h h' v → Ranges n l rule limit → LongEnough n h → v ≡ Accepted
   pub unique : (n l limit rule : ℕ) (h h₁ h₂ : Held) (v₁ v₂ : Verdict) → FreshCall n l limit rule h h₁ v₁ → FreshCall n l limit rule h h₂ v₂ → (v₁ ≡ v₂) × (h₁ ≡ h₂)
-  pub needed : (n l limit rule : ℕ) (h h' k k' : Held) (v₁ v₂ : Verdict) → FreshCall n l limit rule h h' v₁ → FreshCall n l limit rule k k' v₂ → Roomy n h → Roomy n k →
+  pub needed : (n l limit rule : ℕ) (h h' k k' : Held) (v₁ v₂ : Verdict) → FreshCall n l limit rule h h' v₁ → FreshCall n l limit rule k k' v₂ → LongEnough n h → LongEnough n k →
       (v₁ ≡ v₂) × (v₁ ≡ Accepted → HeldAlike n h' k')
   pub lengths : (n l limit rule : ℕ) (h h' : Held) (v : Verdict) → FreshCall n l limit rule h h' v → SameLengths h h'
 
 -- ---- post, likewise
 pub record PostTheorems : Type 0 where
-  pub accepts : (arrivals : List ℕ) (h h' : Held) (v : Verdict) → PostCall arrivals h h' v → Ready h → h .run .nodes * h .run .nodes ≤ length arrivals →
+  pub accepts : (arrivals : List ℕ) (h h' : Held) (v : Verdict) → PostCall arrivals h h' v → Callable h → h .run .nodes * h .run .nodes ≤ length arrivals →
       ((p : ℕ) → p < h .run .nodes * h .run .nodes → getD arrivals p 0 ≤ 65535) → h .run .posts < 1000000 → v ≡ Accepted
   pub unique : (arrivals : List ℕ) (h h₁ h₂ : Held) (v₁ v₂ : Verdict) → PostCall arrivals h h₁ v₁ → PostCall arrivals h h₂ v₂ → (v₁ ≡ v₂) × (h₁ ≡ h₂)
   pub needed : (a b : List ℕ) (h h' k k' : Held) (v₁ v₂ : Verdict) → PostCall a h h' v₁ → PostCall b k k' v₂ → Alike (h .run .nodes * h .run .nodes) a b → HeldAlike (h .run .nodes) h k →
@@ -81,7 +81,7 @@ pub record FramesAgreeAsNeeded (n rule : ℕ) (h' k' : Held) (kept₁ withdrawn�
   pub least-cells : verdictOf r₁ ≡ Accepted → rule ≡ 1 → take (n * n) withdrawn₁ ≡ take (n * n) withdrawn₂ → (HeldAlike n h' k') × (take (n * n) kept₁ ≡ take (n * n) kept₂)
 
 pub record FrameTheorems : Type 0 where
-  pub accepts : (k a q k' a' q' : List ℕ) (h h' : Held) (r : Answer) → FrameCall k a q k' a' q' h h' r → Ready h →
+  pub accepts : (k a q k' a' q' : List ℕ) (h h' : Held) (r : Answer) → FrameCall k a q k' a' q' h h' r → Callable h →
       h .run .nodes * h .run .nodes ≤ length k → h .run .nodes * h .run .nodes ≤ length a → h .run .slots * h .run .nodes ≤ length q → h .run .frames < 1000000 → verdictOf r ≡ Accepted
   -- an accepted frame keeps the promise of `plan` with what waits as the demand, so that all theorems on plans hold of it
   pub planned : (old : Run) (w p s d k a q w' s' k' a' q' : List ℕ) (r : Answer) → Framed old w p s d k a q w' s' k' a' q' r → verdictOf r ≡ Accepted →

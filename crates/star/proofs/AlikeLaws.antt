@@ -18,11 +18,11 @@ use Rattle.star.specs.Refusals.{firstAbove}
 use Rattle.star.specs.Lines.{slack, overflows, excess, critical, negative, excessOf}
 use Rattle.star.proofs.LineLaws.{line-ext}
 
-pub first-at : (m : ℕ) (d e : List ℕ) → take m d ≡ take m e → (p : ℕ) → p < m → getD d p 0 ≡ getD e p 0
-first-at m d e same p lt = sym (getD-take m d p 0 lt) ∙ ap (λ x. getD x p 0) same ∙ getD-take m e p 0 lt
+pub same-first : (m : ℕ) (d e : List ℕ) → take m d ≡ take m e → (p : ℕ) → p < m → getD d p 0 ≡ getD e p 0
+same-first m d e same p lt = sym (getD-take m d p 0 lt) ∙ ap (λ x. getD x p 0) same ∙ getD-take m e p 0 lt
 
 pub alike-at : {m : ℕ} {d e : List ℕ} → Alike m d e → (p : ℕ) → p < m → getD d p 0 ≡ getD e p 0
-alike-at {m} {d} {e} same = first-at m d e (same .cells)
+alike-at {m} {d} {e} same = same-first m d e (same .cells)
 
 module _ (n : ℕ) {d e : List ℕ} (same : Alike (n * n) d e) where
   pub alike-cell : (i j : ℕ) → i < n → j < n → cell n d i j ≡ cell n e i j
