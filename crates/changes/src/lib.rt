@@ -2,8 +2,10 @@
 use arrays::frames;
 ghost use mathlib.Core.Path.{_≡_};
 ghost use Prim.Native.Nat.{_≤_};
+ghost use lib.ListN.{length};
 ghost use Rattle.star.specs.Schedules.{differ, reconfigurations};
 ghost use Rattle.arrays.specs.Arrays.{Frame, Slot};
+ghost use Rattle.changes.specs.Changes.{changeAt};
 
 // Whether slot k of one schedule and slot m of another differ for some destination. A setting is a schedule of one slot.
 pub fn differs(n: usize, one: &[u8], k: usize, other: &[u8], m: usize) -> bool
@@ -18,6 +20,20 @@ pub fn differs(n: usize, one: &[u8], k: usize, other: &[u8], m: usize) -> bool
         j += 1;
     }
     false
+}
+
+// What a setting adds to the reconfigurations where it is written from slot t on: 1 where the slot before differs from it, else 0.
+pub fn change(n: usize, schedule: &[u8], t: usize, setting: &[u8]) -> u32
+    requires { ⌜ (Frame n t (now schedule)) × (n ≤ length (now setting)) ⌝ }
+    ensures { λ r. ⌜ r ≡ changeAt n (now (schedule .entry)) t (now (setting .entry)) ⌝ }
+{
+    if t < 1 {
+        return 0;
+    }
+    if differs(n, schedule, t - 1, setting, 0) {
+        return 1;
+    }
+    0
 }
 
 // The number of k from 0 to L−2 at which slot k and slot k+1 differ.

@@ -14,7 +14,8 @@ use Rattle.star.specs.Lines.{lineSum}
 use Rattle.star.specs.Schedules.{ConflictFree, count}
 use Rattle.star.proofs.LineLaws.{row-sum, column-sum}
 use Rattle.pairs.specs.Pairs.{taken}
-use Rattle.holds.specs.Holds.{CanLast, Lasts, CanHear, Hears, CanTake, Taken, Wrote, CanHold, Holds}
+use Rattle.cells.specs.Cells.{paddedIn, keptIn}
+use Rattle.holds.specs.Holds.{lasting, due, CanHear, Hears, CanTake, Taken, Takes, Next, Wrote, Placed}
 use Rattle.holds.proofs.Turns.{lasting-idle, lasting-due, heard-idle, heard-due}
 
 -- ---- lines
@@ -74,97 +75,87 @@ module _ {n : ℕ} {s u bytes : List ℕ} {t : ℕ} (h : ℕ) (w : Wrote n s u b
           (λ hi. once j v hj hv (omega (arith, w .new k j hi hk hj)) (sym (w .new k j hi hk hj) ∙ e ∙ w .new k v hi hk hv));
     }
 
--- ---- the whole
-module _ {n : ℕ} {padded due source schedule : List ℕ} {t most : ℕ} (c : CanHold n padded due source schedule t most) where
-  pub hold-last : CanLast n padded due source most
-  hold-last = record {
-    table = c .table;
-    table-due = c .table-due;
+-- ---- the setting that comes next
+module _ {n : ℕ} {table source before : List ℕ} {most : ℕ} (c : CanHear n table source before most) {out : List ℕ} {h : ℕ} (d : Hears n table source out most h) where
+  -- what a pair lasts is no more than it gets
+  pub next-take : CanTake n table source h
+  next-take = record {
+    table-room = c .table-room;
     sources = c .sources;
     full = c .full;
-    gets = c .gets;
-    some = c .some;
+    enough = λ j hj. by-lt (cell n (keptIn table) (getD source j 0) j) (cell n (paddedIn table) (getD source j 0) j)
+        (λ lt. omega (arith, d .lasts j hj, lasting-idle (cell n (paddedIn table) (getD source j 0) j) (cell n (keptIn table) (getD source j 0) j) lt))
+        (λ le. omega (arith, d .lasts j hj, lasting-due (cell n (paddedIn table) (getD source j 0) j) (cell n (keptIn table) (getD source j 0) j) le));
   }
 
-  pub hold-hear : {bytes : List ℕ} → n ≤ length bytes → CanHear n due source bytes
-  hold-hear fits = record { table = c .table-due; sources = c .sources; outs = fits; full = c .full }
+  -- a byte is its destination's source while slots are due, or idle
+  byte-is : (j : ℕ) → j < n
+      → ((getD out j 0 ≡ getD source j 0) × (cell n (paddedIn table) (getD source j 0) j ≤ cell n (keptIn table) (getD source j 0) j))
+      ⊎ ((getD out j 0 ≡ 255) × (cell n (keptIn table) (getD source j 0) j + h ≤ cell n (paddedIn table) (getD source j 0) j))
+  byte-is j hj =
+      by-lt (cell n (keptIn table) (getD source j 0) j) (cell n (paddedIn table) (getD source j 0) j)
+      (λ lt. inr (
+        d .says j hj ∙ heard-idle (cell n (paddedIn table) (getD source j 0) j) (cell n (keptIn table) (getD source j 0) j) (getD source j 0) lt,
+        omega (arith, d .lasts j hj, lasting-idle (cell n (paddedIn table) (getD source j 0) j) (cell n (keptIn table) (getD source j 0) j) lt),
+      ))
+      (λ le. inl (d .says j hj ∙ heard-due (cell n (paddedIn table) (getD source j 0) j) (cell n (keptIn table) (getD source j 0) j) (getD source j 0) le, le))
 
-  module _ {h : ℕ} (d : Lasts n padded due source most h) where
-    pub hold-take : CanTake n padded source h
-    hold-take = record {
-      table = c .table;
-      sources = c .sources;
-      enough = λ j hj lt. by-eq (cell n due (getD source j 0) j) 0
-          (λ e. omega (arith, d .all j hj, lasting-idle (cell n due (getD source j 0) j) (cell n padded (getD source j 0) j) e))
-          (λ ne. omega (
-            arith,
-            d .all j hj,
-            lasting-due (cell n due (getD source j 0) j) (cell n padded (getD source j 0) j) (omega arith),
-            c .below (getD source j 0) j lt hj,
-          ));
-    }
+  byte-heard : (j : ℕ) → j < n → (getD out j 0 < n) ⊎ (getD out j 0 ≡ 255)
+  byte-heard j hj = ⊎-elim (λ a. inl (omega (arith, a .0, c .full j hj))) (λ b. inr (b .0)) (byte-is j hj)
 
-    module _ {out : List ℕ} (says : Hears n due source out) where
-      -- a byte is its destination's source while slots are due, or idle
-      byte-is : (j : ℕ) → j < n → ((getD out j 0 ≡ getD source j 0) × (0 < cell n due (getD source j 0) j)) ⊎ ((getD out j 0 ≡ 255) × (cell n due (getD source j 0) j ≡ 0))
-      byte-is j hj =
-          by-eq (cell n due (getD source j 0) j) 0
-          (λ e. inr (says .all j hj ∙ heard-idle (cell n due (getD source j 0) j) (getD source j 0) e, e))
-          (λ ne. inl (says .all j hj ∙ heard-due (cell n due (getD source j 0) j) (getD source j 0) (omega arith), omega arith))
+  byte-source : (j : ℕ) → j < n → getD out j 0 < n → getD out j 0 ≡ getD source j 0
+  byte-source j hj lt = ⊎-elim (λ a. a .0) (λ b. absurd (omega (arith, b .0, c .table-room .nodes))) (byte-is j hj)
 
-      byte-heard : (j : ℕ) → j < n → (getD out j 0 < n) ⊎ (getD out j 0 ≡ 255)
-      byte-heard j hj = ⊎-elim (λ a. inl (omega (arith, a .0, c .full j hj))) (λ b. inr (b .0)) (byte-is j hj)
+  byte-once : (j u : ℕ) → j < n → u < n → getD out j 0 < n → getD out j 0 ≡ getD out u 0 → j ≡ u
+  unfolding taken
+  byte-once j u hj hu lt e =
+      by-eq j u (λ q. q)
+      (λ ne.
+      let same : getD source j 0 ≡ getD source u 0 = sym (byte-source j hj lt) ∙ e ∙ byte-source u hu (omega arith) in
+      absurd (omega (
+        arith,
+        sum-two n (λ k. hit (getD source k 0) (getD source j 0)) j u hj hu ne,
+        hit-same {a = getD source j 0} refl,
+        hit-same (sym same),
+        c .once (getD source j 0) (c .full j hj),
+      )))
 
-      byte-source : (j : ℕ) → j < n → getD out j 0 < n → getD out j 0 ≡ getD source j 0
-      byte-source j hj lt = ⊎-elim (λ a. a .0) (λ b. absurd (omega (arith, b .0, c .table .nodes))) (byte-is j hj)
-
-      byte-once : (j u : ℕ) → j < n → u < n → getD out j 0 < n → getD out j 0 ≡ getD out u 0 → j ≡ u
-      unfolding taken
-      byte-once j u hj hu lt e =
-          by-eq j u (λ q. q)
-          (λ ne.
-          let same : getD source j 0 ≡ getD source u 0 = sym (byte-source j hj lt) ∙ e ∙ byte-source u hu (omega arith) in
-          absurd (omega (
-            arith,
-            sum-two n (λ k. hit (getD source k 0) (getD source j 0)) j u hj hu ne,
-            hit-same {a = getD source j 0} refl,
-            hit-same (sym same),
-            c .once (getD source j 0) (c .full j hj),
-          )))
-
-      pub hold-take-due : n ≤ length out → CanTake n due out h
-      hold-take-due fits = record {
-        table = c .table-due;
-        sources = fits;
-        enough = λ j hj lt. ⊎-elim
-            (λ a. rw (a .0) (omega (arith, d .all j hj, lasting-due (cell n due (getD source j 0) j) (cell n padded (getD source j 0) j) (a .1))))
-            (λ b. absurd (omega (arith, b .0, c .table .nodes)))
-            (byte-is j hj);
-      }
-
-      pub hold-law : {padded' due' schedule' : List ℕ} → Taken n padded padded' source h → Taken n due due' out h → Wrote n schedule schedule' out t (t + h)
-          → Holds n padded due source schedule padded' due' schedule' t most h
-      hold-law dv dr w = record {
+  pub next-law : {table' : List ℕ} → Takes n table table' source h → Next n table table' source out most h
+  next-law {table'} k =
+      let keeps : (i j : ℕ) → cell n (keptIn table') i j ≡ cell n (keptIn table) i j = λ i j. ap (λ (x : List ℕ). cell n x i j) (k .kept) in
+      record {
         some = d .some;
         within = d .within;
-        less = dv;
-        placed = λ kept r g. record {
-          lines = λ ℓ hl. omega (arith, line-less dv (c .once) (c .full) ℓ hl, g .lines ℓ hl);
-          below = λ i j hi hj. by-eq (getD source j 0) i
-              (λ e. ⊎-elim
-              (λ a.
-              let q : hit (getD out j 0) i ≡ 1 = hit-same (a .0 ∙ e) in
-              let o : hit (getD source j 0) i ≡ 1 = hit-same e in
-              omega (arith, rw q at (dr .less i j hi hj), rw o at (dv .less i j hi hj), g .below i j hi hj))
-              (λ b.
-              let z : cell n due i j ≡ 0 = rw e at (b .1) in
-              omega (arith, z, dr .less i j hi hj))
-              (byte-is j hj))
-              (λ ne.
-              let o : hit (getD source j 0) i ≡ 0 = hit-other ne in
-              omega (arith, dr .less i j hi hj, rw o at (dv .less i j hi hj), g .below i j hi hj));
-          counts = λ i j hi hj. omega (arith, g .counts i j hi hj, dr .less i j hi hj, count-more h w i j hj);
-          free = free-more h w byte-heard byte-once (g .free);
-        };
-        beyond = w .beyond;
+        takes = k;
+        lines = line-less (k .less) (c .once) (c .full);
+        dues = λ i j hi hj. by-eq (getD source j 0) i
+            (λ e.
+            let o : hit (getD source j 0) i ≡ 1 = hit-same e in
+            let less : cell n (paddedIn table') i j + h * 1 ≡ cell n (paddedIn table) i j = rw o at (k .less .less i j hi hj) in
+            ⊎-elim
+            (λ a.
+            let q : hit (getD out j 0) i ≡ 1 = hit-same (a .0 ∙ e) in
+            let le : cell n (paddedIn table) i j ≤ cell n (keptIn table) i j = rw e at (a .1) in
+            rw q (omega (arith, less, le, keeps i j)))
+            (λ b.
+            let q : hit (getD out j 0) i ≡ 0 = hit-other (λ r. omega (arith, b .0, c .table-room .nodes)) in
+            let le : cell n (keptIn table) i j + h ≤ cell n (paddedIn table) i j = rw e at (b .1) in
+            rw q (omega (arith, less, le, keeps i j)))
+            (byte-is j hj))
+            (λ ne.
+            let o : hit (getD source j 0) i ≡ 0 = hit-other ne in
+            let less : cell n (paddedIn table') i j + h * 0 ≡ cell n (paddedIn table) i j = rw o at (k .less .less i j hi hj) in
+            let q : hit (getD out j 0) i ≡ 0 =
+            ⊎-elim (λ a. hit-other (λ r. ne (sym (a .0) ∙ r))) (λ b. hit-other (λ r. omega (arith, b .0, c .table-room .nodes))) (byte-is j hj) in
+            rw q (omega (arith, less, keeps i j)));
+        heard = byte-heard;
+        once = byte-once;
       }
+
+-- what was placed up to slot t is placed up to t + h
+pub placed-more : {n r t most h : ℕ} {table table' source bytes s u : List ℕ} → Next n table table' source bytes most h → Wrote n s u bytes t (t + h) → Placed n r t table s → Placed n r (t + h) table' u
+placed-more {n} {h = h} d w g = record {
+  lines = λ ℓ hl. omega (arith, d .lines ℓ hl, g .lines ℓ hl);
+  counts = λ i j hi hj. omega (arith, g .counts i j hi hj, d .dues i j hi hj, count-more h w i j hj, ap (λ (x : List ℕ). cell n x i j) (d .takes .kept));
+  free = free-more h w (d .heard) (d .once) (g .free);
+}

@@ -1,9 +1,10 @@
 -- The loops over destinations and slots: what each keeps, one destination or slot more at a turn. The laws assume nothing.
 use mathlib.Core.Path.{_≡_, refl, sym, ap, _∙_}
 use mathlib.Core.List.{List}
-use Prim.Native.Nat.{ℕ, zero, suc, _+_, _-_, _*_, _≤_, _<_}
+use Prim.Native.Nat.{ℕ, _+_, _-_, _*_, _≤_, _<_}
 use native.Mathlib.Omega.{arith}
 use borrow.Author.Count.{below-more}
+use borrow.Author.Tests.{lt-ltb, le-ltb}
 use lib.ListN.{length, getD, set, drop, length-set}
 use Rattle.sums.specs.Sums.{hit}
 use Rattle.sums.specs.Tables.{cell}
@@ -13,130 +14,141 @@ use Rattle.sums.proofs.Fills.{set-more}
 use Rattle.sums.proofs.Tables.{cell-lt, set-here, set-row, set-col}
 use Rattle.arrays.specs.Arrays.{Slot}
 use Rattle.arrays.proofs.Stores.{beyond-kept, beyond-more}
-use Rattle.holds.specs.Holds.{lasting, heardFrom, CanLast, CanHear, CanTake, Taken, Wrote}
+use Rattle.cells.specs.Cells.{paddedIn, keptIn, Took}
+use Rattle.cells.proofs.CellLaws.{padded-length}
+use Rattle.holds.specs.Holds.{lasting, heardFrom, CanHear, Hears, CanTake, Taken, Takes, Wrote}
 
 -- ---- how long a pair lasts, and what is heard of it
-pub lasting-idle : (due padded : ℕ) → due ≡ 0 → lasting due padded ≡ padded
+pub lasting-idle : (padded kept : ℕ) → kept < padded → lasting padded kept ≡ padded - kept
 unfolding lasting
-lasting-idle due padded e = rw e
+lasting-idle padded kept lt = simp (lt-ltb kept padded lt)
 
-pub lasting-due : (due padded : ℕ) → 0 < due → lasting due padded ≡ due
+pub lasting-due : (padded kept : ℕ) → padded ≤ kept → lasting padded kept ≡ padded
 unfolding lasting
-lasting-due zero padded h = absurd (omega arith)
-lasting-due (suc due) padded h = refl
+lasting-due padded kept le = simp (le-ltb kept padded le)
 
-pub heard-idle : (due i : ℕ) → due ≡ 0 → heardFrom due i ≡ 255
+pub heard-idle : (padded kept i : ℕ) → kept < padded → heardFrom padded kept i ≡ 255
 unfolding heardFrom
-heard-idle due i e = rw e
+heard-idle padded kept i lt = simp (lt-ltb kept padded lt)
 
-pub heard-due : (due i : ℕ) → 0 < due → heardFrom due i ≡ i
+pub heard-due : (padded kept i : ℕ) → padded ≤ kept → heardFrom padded kept i ≡ i
 unfolding heardFrom
-heard-due zero i h = absurd (omega arith)
-heard-due (suc due) i h = refl
+heard-due padded kept i le = simp (le-ltb kept padded le)
 
--- ---- how long the pairs of the destinations below j last
-pub record Lasting (n : ℕ) (padded due source : List ℕ) (most h j : ℕ) : Type 0 where
-  pub upto : j ≤ n
-  pub some : 1 ≤ h
-  pub within : h ≤ most
-  pub all : (u : ℕ) → u < j → h ≤ lasting (cell n due (getD source u 0) u) (cell n padded (getD source u 0) u)
+pub heard-byte : (padded kept i : ℕ) → i < 256 → heardFrom padded kept i < 256
+heard-byte padded kept i lt =
+    by-lt kept padded
+    (λ idle. omega (arith, heard-idle padded kept i idle))
+    (λ le. omega (arith, heard-due padded kept i le))
 
-pub last-start : {n : ℕ} {padded due source : List ℕ} {most : ℕ} → CanLast n padded due source most → Lasting n padded due source most most 0
-last-start c = record { upto = omega arith; some = c .some; within = omega arith; all = λ u lt. absurd (omega arith) }
-
-module _ {n : ℕ} {padded due source : List ℕ} {most h j : ℕ} (c : CanLast n padded due source most) (g : Lasting n padded due source most h j) (hj : j < n)
-    {i a b x : ℕ} (ei : i ≡ getD source j 0) (ea : a ≡ cell n due i j) (eb : b ≡ cell n padded i j) (ex : x ≡ lasting a b) where
-  here : x ≡ lasting (cell n due (getD source j 0) j) (cell n padded (getD source j 0) j)
-  here = cc
-
-  x-some : 1 ≤ x
-  x-some =
-      by-eq a 0
-      (λ z. omega (arith, lasting-idle a b z, ap (λ (y : ℕ). cell n padded y j) ei, c .gets j hj))
-      (λ ne. omega (arith, lasting-due a b (omega arith)))
-
-  pub last-keep : h ≤ x → Lasting n padded due source most h (j + 1)
-  last-keep le = record {
-    upto = omega arith;
-    some = g .some;
-    within = g .within;
-    all = below-more (λ (u : ℕ). h ≤ lasting (cell n due (getD source u 0) u) (cell n padded (getD source u 0) u)) j (g .all) (omega (arith, here));
-  }
-
-  pub last-less : x < h → Lasting n padded due source most x (j + 1)
-  last-less lt = record {
-    upto = omega arith;
-    some = x-some;
-    within = omega (arith, g .within);
-    all = below-more (λ (u : ℕ). x ≤ lasting (cell n due (getD source u 0) u) (cell n padded (getD source u 0) u)) j (λ u hu. omega (arith, g .all u hu)) (omega (arith, here));
-  }
-
--- ---- what the destinations below j hear
-pub record Hearing (n : ℕ) (due source bytes0 bytes : List ℕ) (j : ℕ) : Type 0 where
+-- ---- what the destinations below j hear, and how long that lasts
+pub record Hearing (n : ℕ) (table source bytes0 bytes : List ℕ) (most h j : ℕ) : Type 0 where
   pub upto : j ≤ n
   pub len : length bytes ≡ length bytes0
-  pub all : (u : ℕ) → u < j → getD bytes u 0 ≡ heardFrom (cell n due (getD source u 0) u) (getD source u 0)
+  pub some : 1 ≤ h
+  pub within : h ≤ most
+  pub lasts : (u : ℕ) → u < j → h ≤ lasting (cell n (paddedIn table) (getD source u 0) u) (cell n (keptIn table) (getD source u 0) u)
+  pub says : (u : ℕ) → u < j → getD bytes u 0 ≡ heardFrom (cell n (paddedIn table) (getD source u 0) u) (cell n (keptIn table) (getD source u 0) u) (getD source u 0)
 
-pub heard-source : (n : ℕ) (due : List ℕ) (j : ℕ) {i s a : ℕ} → i ≡ s → a ≡ cell n due i j → 0 < a → i ≡ heardFrom (cell n due s j) s
-heard-source n due j {i} {s} {a} e ea pos = sym (heard-due a i pos) ∙ (cc)
-
-pub heard-nobody : (n : ℕ) (due : List ℕ) (j : ℕ) {i s a : ℕ} → i ≡ s → a ≡ cell n due i j → a ≡ 0 → 255 ≡ heardFrom (cell n due s j) s
-heard-nobody n due j {i} {s} {a} e ea z = sym (heard-idle a i z) ∙ (cc)
-
-pub hear-step : {n : ℕ} {due source bytes0 bytes : List ℕ} {j b : ℕ} → CanHear n due source bytes0 → Hearing n due source bytes0 bytes j → j < n
-    → b ≡ heardFrom (cell n due (getD source j 0) j) (getD source j 0) → Hearing n due source bytes0 (set bytes j b) (j + 1)
-hear-step {n = n} {due = due} {source = source} {bytes = bytes} {j = j} {b = b} c g lt e = record {
+pub hear-start : {n : ℕ} {table source bytes : List ℕ} {most : ℕ} → CanHear n table source bytes most → Hearing n table source bytes bytes most most 0
+hear-start c = record {
   upto = omega arith;
-  len = length-set bytes j b ∙ g .len;
-  all = set-more (λ u. heardFrom (cell n due (getD source u 0) u) (getD source u 0)) bytes j b (omega (arith, g .len, c .outs)) e (g .all);
+  len = refl;
+  some = c .some;
+  within = omega arith;
+  lasts = λ u lt. absurd (omega arith);
+  says = λ u lt. absurd (omega arith);
 }
+
+module _ {n : ℕ} {table source bytes0 bytes : List ℕ} {most h j : ℕ} (c : CanHear n table source bytes0 most) (g : Hearing n table source bytes0 bytes most h j) (hj : j < n)
+    {i a b x y : ℕ} (ei : i ≡ getD source j 0) (ea : a ≡ cell n (paddedIn table) i j) (eb : b ≡ cell n (keptIn table) i j)
+    (ex : x ≡ heardFrom a b i) (ey : y ≡ lasting a b) where
+  heard-here : x ≡ heardFrom (cell n (paddedIn table) (getD source j 0) j) (cell n (keptIn table) (getD source j 0) j) (getD source j 0)
+  heard-here = cc
+
+  lasts-here : y ≡ lasting (cell n (paddedIn table) (getD source j 0) j) (cell n (keptIn table) (getD source j 0) j)
+  lasts-here = cc
+
+  y-some : 1 ≤ y
+  y-some =
+      by-lt b a
+      (λ lt. omega (arith, lasting-idle a b lt))
+      (λ le. omega (arith, lasting-due a b le, ap (λ (z : ℕ). cell n (paddedIn table) z j) ei, c .gets j hj))
+
+  says-more : (u : ℕ) → u < j + 1 → getD (set bytes j x) u 0 ≡ heardFrom (cell n (paddedIn table) (getD source u 0) u) (cell n (keptIn table) (getD source u 0) u) (getD source u 0)
+  says-more =
+      set-more (λ u. heardFrom (cell n (paddedIn table) (getD source u 0) u) (cell n (keptIn table) (getD source u 0) u) (getD source u 0)) bytes j x
+      (omega (arith, g .len, c .outs)) heard-here (g .says)
+
+  pub hear-keep : h ≤ y → Hearing n table source bytes0 (set bytes j x) most h (j + 1)
+  hear-keep le = record {
+    upto = omega arith;
+    len = length-set bytes j x ∙ g .len;
+    some = g .some;
+    within = g .within;
+    lasts = below-more (λ (u : ℕ). h ≤ lasting (cell n (paddedIn table) (getD source u 0) u) (cell n (keptIn table) (getD source u 0) u)) j (g .lasts) (omega (arith, lasts-here));
+    says = says-more;
+  }
+
+  pub hear-less : y < h → Hearing n table source bytes0 (set bytes j x) most y (j + 1)
+  hear-less lt = record {
+    upto = omega arith;
+    len = length-set bytes j x ∙ g .len;
+    some = y-some;
+    within = omega (arith, g .within);
+    lasts = below-more (λ (u : ℕ). y ≤ lasting (cell n (paddedIn table) (getD source u 0) u) (cell n (keptIn table) (getD source u 0) u)) j
+        (λ u hu. omega (arith, g .lasts u hu)) (omega (arith, lasts-here));
+    says = says-more;
+  }
+
+pub hear-end : {n : ℕ} {table source bytes0 bytes : List ℕ} {most h j : ℕ} → Hearing n table source bytes0 bytes most h j → n ≤ j → Hears n table source bytes most h
+hear-end g le = record { some = g .some; within = g .within; lasts = λ u hu. g .lasts u (omega arith); says = λ u hu. g .says u (omega arith) }
 
 -- ---- h is taken from the pairs of the destinations below j
 pub record Taking (n : ℕ) (x y source : List ℕ) (h j : ℕ) : Type 0 where
   pub upto : j ≤ n
   pub len : length y ≡ length x
-  pub less : (i u : ℕ) → i < n → u < j → cell n y i u + h * hit (getD source u 0) i ≡ cell n x i u
-  pub rest : (i u : ℕ) → i < n → u < n → j ≤ u → cell n y i u ≡ cell n x i u
+  pub less : (i u : ℕ) → i < n → u < j → cell n (paddedIn y) i u + h * hit (getD source u 0) i ≡ cell n (paddedIn x) i u
+  pub rest : (i u : ℕ) → i < n → u < n → j ≤ u → cell n (paddedIn y) i u ≡ cell n (paddedIn x) i u
+  pub kept : keptIn y ≡ keptIn x
 
 pub take-start : (n : ℕ) (x source : List ℕ) (h : ℕ) → Taking n x x source h 0
-take-start n x source h = record { upto = omega arith; len = refl; less = λ i u hi lt. absurd (omega arith); rest = λ i u hi hu le. refl }
+take-start n x source h = record { upto = omega arith; len = refl; less = λ i u hi lt. absurd (omega arith); rest = λ i u hi hu le. refl; kept = refl }
 
-module _ {n : ℕ} {x y source : List ℕ} {h j : ℕ} (c : CanTake n x source h) (g : Taking n x y source h j) (hj : j < n) where
-  pub take-skip : n ≤ getD source j 0 → Taking n x y source h (j + 1)
-  take-skip le = record {
-    upto = omega arith;
-    len = g .len;
-    less = λ i u hi hu. by-eq u j
-        (λ e.
-        let z : hit (getD source u 0) i ≡ 0 = hit-other (λ q. omega (arith, ap (λ (a : ℕ). getD source a 0) e)) in
-        rw z (omega (arith, g .rest i u hi (omega arith) (omega arith))))
-        (λ ne. g .less i u hi (omega arith));
-    rest = λ i u hi hu lo. g .rest i u hi hu (omega arith);
-  }
+module _ {n : ℕ} {x y source : List ℕ} {h j : ℕ} (c : CanTake n x source h) (g : Taking n x y source h j) (hj : j < n) {a : ℕ} (ea : a ≡ getD source j 0) where
+  pub take-in : a < n
+  take-in = omega (arith, c .full j hj)
 
-  module _ {a : ℕ} (ea : a ≡ getD source j 0) (lt : a < n) where
-    pub take-enough : h ≤ cell n y a j
-    take-enough = rw (g .rest a j lt hj (omega arith)) (rw ea (c .enough j hj (omega arith)))
+  pub take-enough : h ≤ cell n (paddedIn y) a j
+  take-enough = rw (g .rest a j take-in hj (omega arith)) (rw ea (c .enough j hj))
 
-    pub take-put : Taking n x (set y (a * n + j) (cell n y a j - h)) source h (j + 1)
-    take-put =
-        record {
-          upto = omega arith;
-          len = length-set y (a * n + j) (cell n y a j - h) ∙ g .len;
-          less = λ i u hi hu. by-eq u j
-              (λ e. by-eq i a
-              (λ q.
-              let o : hit (getD source u 0) i ≡ 1 = hit-same (ap (λ (k : ℕ). getD source k 0) e ∙ sym ea ∙ sym q) in
-              rw o (rw (q, e) (omega (arith, set-here n y a j (cell n y a j - h) hj (omega (arith, cell-lt n a j lt hj, c .table .cells, g .len)), take-enough, g .rest a j lt hj (omega arith)))))
-              (λ nq.
-              let o : hit (getD source u 0) i ≡ 0 = hit-other (λ r. nq (sym r ∙ ap (λ (k : ℕ). getD source k 0) e ∙ sym ea)) in
-              rw o (omega (arith, set-row n y a j (cell n y a j - h) hj i u (omega arith) nq, g .rest i u hi (omega arith) (omega arith)))))
-              (λ ne. rw (set-col n y a j (cell n y a j - h) hj i u (omega arith) ne) (g .less i u hi (omega arith)));
-          rest = λ i u hi hu lo. set-col n y a j (cell n y a j - h) hj i u hu (λ e. omega arith) ∙ g .rest i u hi hu (omega arith);
-        }
+  pub take-put : {z : List ℕ} → length z ≡ length y → Took n y z a j h → Taking n x z source h (j + 1)
+  take-put {z} ez took =
+      let lt = take-in in
+      let here : cell n (paddedIn z) a j ≡ cell n (paddedIn y) a j - h =
+      rw (took .padded) (set-here n (paddedIn y) a j (cell n (paddedIn y) a j - h) hj (omega (arith, cell-lt n a j lt hj, c .table-room .cells, g .len, padded-length y))) in
+      let row : (i u : ℕ) → u < n → (i ≡ a → ⊥) → cell n (paddedIn z) i u ≡ cell n (paddedIn y) i u =
+      λ i u hu ne. rw (took .padded) (set-row n (paddedIn y) a j (cell n (paddedIn y) a j - h) hj i u hu ne) in
+      let column : (i u : ℕ) → u < n → (u ≡ j → ⊥) → cell n (paddedIn z) i u ≡ cell n (paddedIn y) i u =
+      λ i u hu ne. rw (took .padded) (set-col n (paddedIn y) a j (cell n (paddedIn y) a j - h) hj i u hu ne) in
+      record {
+        upto = omega arith;
+        len = ez ∙ g .len;
+        less = λ i u hi hu. by-eq u j
+            (λ e. by-eq i a
+            (λ q.
+            let o : hit (getD source u 0) i ≡ 1 = hit-same (ap (λ (k : ℕ). getD source k 0) e ∙ sym ea ∙ sym q) in
+            rw o (rw (q, e) (omega (arith, here, take-enough, g .rest a j lt hj (omega arith)))))
+            (λ nq.
+            let o : hit (getD source u 0) i ≡ 0 = hit-other (λ r. nq (sym r ∙ ap (λ (k : ℕ). getD source k 0) e ∙ sym ea)) in
+            rw o (omega (arith, row i u (omega arith) nq, g .rest i u hi (omega arith) (omega arith)))))
+            (λ ne. rw (column i u (omega arith) ne) (g .less i u hi (omega arith)));
+        rest = λ i u hi hu lo. column i u hu (λ e. omega arith) ∙ g .rest i u hi hu (omega arith);
+        kept = took .kept ∙ g .kept;
+      }
 
-pub take-end : {n : ℕ} {x y source : List ℕ} {h j : ℕ} → Taking n x y source h j → n ≤ j → Taken n x y source h
-take-end g le = record { less = λ i u hi hu. g .less i u hi (omega arith) }
+pub take-end : {n : ℕ} {x y source : List ℕ} {h j : ℕ} → Taking n x y source h j → n ≤ j → Takes n x y source h
+take-end g le = record { less = record { less = λ i u hi hu. g .less i u hi (omega arith) }; kept = g .kept }
 
 -- ---- the destinations below j of slot k are written
 pub record Writing (n : ℕ) (s u bytes : List ℕ) (k j : ℕ) : Type 0 where

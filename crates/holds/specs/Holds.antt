@@ -1,57 +1,73 @@
--- Holding a pairing for some slots. `padded` has for each pair the slots that it still gets, idle ones too, `due` how many of those
--- are kept slots, `source` each destination's source, and `bytes` what each destination hears meanwhile.
-use Prim.Native.Nat.{ℕ, zero, suc, _+_, _*_, _<_, _≤_}
+-- Holding a pairing for some slots. A table has for each pair what it keeps and what it still gets, idle slots too; `source` has each
+-- destination's source, and `bytes` what each destination hears meanwhile.
+use Prim.Native.Nat.{ℕ, _+_, _-_, _*_, _<_, _≤_, min}
 use mathlib.Core.Path.{_≡_}
+use mathlib.Core.Logic.{_⊎_}
+use mathlib.Core.Bool.{cond}
 use mathlib.Core.List.{List}
 use lib.ListN.{length, getD, drop}
+use lib.Dec.{ltb}
 use Rattle.sums.specs.Sums.{hit}
 use Rattle.sums.specs.Tables.{cell}
 use Rattle.star.specs.Tables.{Square}
 use Rattle.star.specs.Lines.{lineSum}
 use Rattle.star.specs.Schedules.{ConflictFree, count}
-use Rattle.arrays.specs.Arrays.{Frame}
+use Rattle.cells.specs.Cells.{paddedIn, keptIn}
 use Rattle.pairs.specs.Pairs.{taken}
 
--- for how many slots a pair's byte stays the same: as long as it is due, and then as long as it is idle
-unfoldable pub lasting : (due padded : ℕ) → ℕ
-lasting zero padded = padded
-lasting (suc due) padded = suc due
+-- for how many slots a pair's byte stays the same: as long as it is idle, and then as long as it is due
+unfoldable pub lasting : (padded kept : ℕ) → ℕ
+lasting padded kept = cond (ltb kept padded) (padded - kept) padded
 
--- what is heard from source i: the source while slots are due, and else 255, nobody
-unfoldable pub heardFrom : (due i : ℕ) → ℕ
-heardFrom zero i = 255
-heardFrom (suc due) i = i
+-- what is heard from source i: 255, nobody, while the pair is idle, and then the source
+unfoldable pub heardFrom : (padded kept i : ℕ) → ℕ
+heardFrom padded kept i = cond (ltb kept padded) 255 i
 
-pub record CanLast (n : ℕ) (padded due source : List ℕ) (most : ℕ) : Type 0 where
-  pub table : Square n padded
-  pub table-due : Square n due
-  pub sources : n ≤ length source
-  pub full : (j : ℕ) → j < n → getD source j 0 < n
-  pub gets : (j : ℕ) → j < n → 1 ≤ cell n padded (getD source j 0) j
-  pub some : 1 ≤ most
+-- idle slots come first, so of the slots that a pair still gets as many are due as it keeps
+abbrev pub due : (n : ℕ) (table : List ℕ) (i j : ℕ) → ℕ
+due n table i j = min (cell n (paddedIn table) i j) (cell n (keptIn table) i j)
 
-pub record Lasts (n : ℕ) (padded due source : List ℕ) (most h : ℕ) : Type 0 where
-  pub some : 1 ≤ h
-  pub within : h ≤ most
-  pub all : (j : ℕ) → j < n → h ≤ lasting (cell n due (getD source j 0) j) (cell n padded (getD source j 0) j)
-
-pub record CanHear (n : ℕ) (due source bytes : List ℕ) : Type 0 where
-  pub table : Square n due
+-- every destination has a source, each source once, and each pair still gets slots
+pub record CanHear (n : ℕ) (table source bytes : List ℕ) (most : ℕ) : Type 0 where
+  pub table-room : Square n table
   pub sources : n ≤ length source
   pub outs : n ≤ length bytes
   pub full : (j : ℕ) → j < n → getD source j 0 < n
+  pub once : (i : ℕ) → i < n → taken n source i ≡ 1
+  pub gets : (j : ℕ) → j < n → 1 ≤ cell n (paddedIn table) (getD source j 0) j
+  pub some : 1 ≤ most
 
-pub record Hears (n : ℕ) (due source bytes : List ℕ) : Type 0 where
-  pub all : (j : ℕ) → j < n → getD bytes j 0 ≡ heardFrom (cell n due (getD source j 0) j) (getD source j 0)
+pub record Hears (n : ℕ) (table source bytes : List ℕ) (most h : ℕ) : Type 0 where
+  pub some : 1 ≤ h
+  pub within : h ≤ most
+  pub lasts : (j : ℕ) → j < n → h ≤ lasting (cell n (paddedIn table) (getD source j 0) j) (cell n (keptIn table) (getD source j 0) j)
+  pub says : (j : ℕ) → j < n → getD bytes j 0 ≡ heardFrom (cell n (paddedIn table) (getD source j 0) j) (cell n (keptIn table) (getD source j 0) j) (getD source j 0)
 
-pub record CanTake (n : ℕ) (x source : List ℕ) (h : ℕ) : Type 0 where
-  pub table : Square n x
+pub record CanTake (n : ℕ) (table source : List ℕ) (h : ℕ) : Type 0 where
+  pub table-room : Square n table
   pub sources : n ≤ length source
-  pub enough : (j : ℕ) → j < n → getD source j 0 < n → h ≤ cell n x (getD source j 0) j
+  pub full : (j : ℕ) → j < n → getD source j 0 < n
+  pub enough : (j : ℕ) → j < n → h ≤ cell n (paddedIn table) (getD source j 0) j
 
 -- y is x with h less at the pair of each destination and its source
 pub record Taken (n : ℕ) (x y source : List ℕ) (h : ℕ) : Type 0 where
   pub less : (i j : ℕ) → i < n → j < n → cell n y i j + h * hit (getD source j 0) i ≡ cell n x i j
+
+-- each pair gets so much less, and keeps what it did
+pub record Takes (n : ℕ) (table table' source : List ℕ) (h : ℕ) : Type 0 where
+  pub less : Taken n (paddedIn table) (paddedIn table') source h
+  pub kept : keptIn table' ≡ keptIn table
+
+-- The setting that comes next: it can be held for h slots, and those are taken. Nobody hears two sources, no source is heard twice, and
+-- the slots that are due no longer are those in which the pair is heard.
+pub record Next (n : ℕ) (table table' source bytes : List ℕ) (most h : ℕ) : Type 0 where
+  pub some : 1 ≤ h
+  pub within : h ≤ most
+  pub takes : Takes n table table' source h
+  pub lines : (ℓ : ℕ) → ℓ < 2 * n → lineSum n (paddedIn table') ℓ + h ≡ lineSum n (paddedIn table) ℓ
+  pub dues : (i j : ℕ) → i < n → j < n → due n table' i j + h * hit (getD bytes j 0) i ≡ due n table i j
+  pub heard : (j : ℕ) → j < n → (getD bytes j 0 < n) ⊎ (getD bytes j 0 ≡ 255)
+  pub once : (j v : ℕ) → j < n → v < n → getD bytes j 0 < n → getD bytes j 0 ≡ getD bytes v 0 → j ≡ v
 
 -- the slots from `from` up to `to` hold the bytes, those before are as they were, and so is what comes after
 pub record Wrote (n : ℕ) (s u bytes : List ℕ) (from to : ℕ) : Type 0 where
@@ -59,28 +75,8 @@ pub record Wrote (n : ℕ) (s u bytes : List ℕ) (from to : ℕ) : Type 0 where
   pub old : (k j : ℕ) → k < from → j < n → cell n u k j ≡ cell n s k j
   pub beyond : drop (to * n) u ≡ drop (to * n) s
 
--- kept is placed up to slot t of r: each line of padded has the slots that are left, and what is counted and what is due make kept
-pub record Placed (n r t : ℕ) (kept padded due schedule : List ℕ) : Type 0 where
-  pub lines : (ℓ : ℕ) → ℓ < 2 * n → lineSum n padded ℓ + t ≡ r
-  pub below : (i j : ℕ) → i < n → j < n → cell n due i j ≤ cell n padded i j
-  pub counts : (i j : ℕ) → i < n → j < n → count n t schedule i j + cell n due i j ≡ cell n kept i j
+-- what the pairs keep is placed up to slot t of r: every line has the slots that are left, and what is counted and what is due make what is kept
+pub record Placed (n r t : ℕ) (table schedule : List ℕ) : Type 0 where
+  pub lines : (ℓ : ℕ) → ℓ < 2 * n → lineSum n (paddedIn table) ℓ + t ≡ r
+  pub counts : (i j : ℕ) → i < n → j < n → count n t schedule i j + due n table i j ≡ cell n (keptIn table) i j
   pub free : ConflictFree n t schedule
-
-pub record CanHold (n : ℕ) (padded due source schedule : List ℕ) (t most : ℕ) : Type 0 where
-  pub table : Square n padded
-  pub table-due : Square n due
-  pub frame : Frame n (t + most) schedule
-  pub sources : n ≤ length source
-  pub full : (j : ℕ) → j < n → getD source j 0 < n
-  pub once : (i : ℕ) → i < n → taken n source i ≡ 1
-  pub gets : (j : ℕ) → j < n → 1 ≤ cell n padded (getD source j 0) j
-  pub below : (i j : ℕ) → i < n → j < n → cell n due i j ≤ cell n padded i j
-  pub some : 1 ≤ most
-
--- the pairing is held for h slots: whatever was placed up to slot t is placed up to t + h
-pub record Holds (n : ℕ) (padded due source schedule padded' due' schedule' : List ℕ) (t most h : ℕ) : Type 0 where
-  pub some : 1 ≤ h
-  pub within : h ≤ most
-  pub less : Taken n padded padded' source h
-  pub placed : (kept : List ℕ) (r : ℕ) → Placed n r t kept padded due schedule → Placed n r (t + h) kept padded' due' schedule'
-  pub beyond : drop ((t + h) * n) schedule' ≡ drop ((t + h) * n) schedule

@@ -1,6 +1,6 @@
 -- Padding: what each loop keeps. A pair that got the smaller of what its lines lack leaves one of them lacking nothing; rows and columns
 -- lack the same in all, so in the end nobody lacks anything. The laws assume nothing.
-use mathlib.Core.Path.{_≡_, refl, sym, _∙_}
+use mathlib.Core.Path.{_≡_, refl, sym, ap, _∙_}
 use mathlib.Core.Logic.{_⊎_, ⊎-elim, inl, inr}
 use mathlib.Core.List.{List}
 use Prim.Native.Nat.{ℕ, _+_, _-_, _*_, _≤_, _<_, min}
@@ -18,32 +18,45 @@ use Rattle.star.specs.Tables.{Square, Demands}
 use Rattle.star.specs.Lines.{lineSum}
 use Rattle.star.proofs.LineLaws.{total-rows, total-columns, line-ext, cell-in-row}
 use Rattle.arrays.proofs.Stores.{square-kept}
-use Rattle.idle.specs.Idle.{Small, Copied, LineSums, Largest, Lacking, Lacks, CanPad, Fuller, PaddedAt, PaddedRow, PaddedAll, Padded}
+use Rattle.cells.specs.Cells.{paddedIn, keptIn, Gave}
+use Rattle.cells.proofs.CellLaws.{padded-at, kept-at, padded-length}
+use Rattle.idle.specs.Idle.{Small, Loaded, LineSums, Largest, Lacking, Lacks, CanPad, Fuller, PaddedAt, PaddedRow, PaddedAll, CanFill, Padded}
 use Rattle.idle.proofs.LineStores.{place-row-sum, line-more}
-
--- ---- the matrix, copied up to p
-pub record Copying (n : ℕ) (kept table0 table : List ℕ) (p : ℕ) : Type 0 where
-  pub within : p ≤ n * n
-  pub len : length table ≡ length table0
-  pub all : (q : ℕ) → q < p → getD table q 0 ≡ getD kept q 0
-
-pub copy-step : {n : ℕ} {kept table0 table : List ℕ} {p : ℕ} → Square n table0 → Copying n kept table0 table p → p < n * n → Copying n kept table0 (set table p (getD kept p 0)) (p + 1)
-copy-step {kept = kept} {table = table} {p = p} h g lt = record {
-  within = omega arith;
-  len = length-set table p (getD kept p 0) ∙ g .len;
-  all = set-more (λ q. getD kept q 0) table p (getD kept p 0) (omega (arith, g .len, h .cells)) refl (g .all);
-}
-
-pub copy-end : {n : ℕ} {kept table0 table : List ℕ} {p : ℕ} → Copying n kept table0 table p → n * n ≤ p → Copied n kept table
-unfolding cell
-copy-end {n = n} g le = record { cells = λ i j hi hj. g .all (i * n + j) (omega (arith, cell-lt n i j hi hj)) }
 
 -- small line sums are sums of demands
 pub small-demands : (n : ℕ) (kept : List ℕ) → Small n kept → Demands n kept
 small-demands n kept h = record { most = λ p lt. omega (arith, place-row-sum n kept p 1024 (h .lines) lt) }
 
+-- a kept cell is small
 pub small-place : {n : ℕ} {kept : List ℕ} → Small n kept → (p : ℕ) → p < n * n → getD kept p 0 < 65536
 small-place {n} {kept} h p lt = omega (arith, place-row-sum n kept p 1024 (h .lines) lt)
+
+-- ---- the cells before p are loaded
+pub record Loading (n : ℕ) (kept table : List ℕ) (p : ℕ) : Type 0 where
+  pub within : p ≤ n * n
+  pub len : length table ≡ length kept
+  pub done : (q : ℕ) → q < p → getD table q 0 ≡ getD kept q 0 * 65537
+  pub rest : (q : ℕ) → p ≤ q → getD table q 0 ≡ getD kept q 0
+
+pub load-step : {n : ℕ} {kept table : List ℕ} {p : ℕ} → Square n kept → Loading n kept table p → p < n * n → Loading n kept (set table p (getD table p 0 * 65537)) (p + 1)
+load-step {kept = kept} {table = table} {p = p} h g lt = record {
+  within = omega arith;
+  len = length-set table p (getD table p 0 * 65537) ∙ g .len;
+  done = set-more (λ q. getD kept q 0 * 65537) table p (getD table p 0 * 65537) (omega (arith, g .len, h .cells)) (ap (λ (x : ℕ). x * 65537) (g .rest p (omega arith))) (g .done);
+  rest = λ q le. getD-set-other table p q (getD table p 0 * 65537) 0 (λ e. omega arith) ∙ g .rest q (omega arith);
+}
+
+pub load-end : {n : ℕ} {kept table : List ℕ} {p : ℕ} → Small n kept → Loading n kept table p → n * n ≤ p → Loaded n kept table
+unfolding cell
+load-end {n = n} {kept = kept} {table = table} small g le =
+    let at : (i j : ℕ) → i < n → j < n → getD table (i * n + j) 0 ≡ getD kept (i * n + j) 0 * 65537 =
+    λ i j hi hj. g .done (i * n + j) (omega (arith, cell-lt n i j hi hj)) in
+    let low : (i j : ℕ) → i < n → j < n → getD kept (i * n + j) 0 < 65536 =
+    λ i j hi hj. small-place small (i * n + j) (cell-lt n i j hi hj) in
+    record {
+      padded = λ i j hi hj. padded-at table (i * n + j) ∙ omega (arith, at i j hi hj, low i j hi hj);
+      keeps = λ i j hi hj. kept-at table (i * n + j) ∙ omega (arith, at i j hi hj, low i j hi hj);
+    }
 
 -- ---- the sums of the lines below m
 pub record Summing (n : ℕ) (kept sums0 sums : List ℕ) (m : ℕ) : Type 0 where
@@ -104,8 +117,8 @@ can-kept {v = v} {v' = v'} ev el f c = record {
 module _ {n : ℕ} {v lack : List ℕ} (c : CanPad n v lack) {i j : ℕ} (hi : i < n) (hj : j < n) {row column idle : ℕ}
     (er : row ≡ getD lack i 0) (ec : column ≡ getD lack (n + j) 0) (ei : idle ≡ min row column) where
   -- with its idle slots the pair has no more than r
-  pub pad-small : cell n v i j + idle ≤ 1024
-  pad-small = omega (arith, cell-in-row n v i j hi hj, c .lacks .lines i (omega arith), c .small)
+  pub pad-small : cell n (paddedIn v) i j + idle ≤ 1024
+  pad-small = omega (arith, cell-in-row n (paddedIn v) i j hi hj, c .lacks .lines i (omega arith), c .small)
 
   first-other : (ℓ : ℕ) → (ℓ ≡ i → ⊥) → getD (set lack i (row - idle)) ℓ 0 ≡ getD lack ℓ 0
   first-other ℓ ne = getD-set-other lack i ℓ (row - idle) 0 ne
@@ -141,22 +154,24 @@ module _ {n : ℕ} {v lack : List ℕ} (c : CanPad n v lack) {i j : ℕ} (hi : i
         first-other ℓ (λ q. ne (sym q)),
       ))))
 
-  pub pad-law : PaddedAt n v lack (set v (i * n + j) (cell n v i j + idle)) (set (set lack i (row - idle)) (n + j) (column - idle)) i j
-  pad-law =
-      let here = set-here n v i j (cell n v i j + idle) hj (omega (arith, cell-lt n i j hi hj, c .square .cells)) in
-      let rows : (a b : ℕ) → a < n → b < n → (a ≡ i → ⊥) → cell n (set v (i * n + j) (cell n v i j + idle)) a b ≡ cell n v a b =
-      λ a b ha hb ne. set-row n v i j (cell n v i j + idle) hj a b hb ne in
-      let columns : (a b : ℕ) → a < n → b < n → (b ≡ j → ⊥) → cell n (set v (i * n + j) (cell n v i j + idle)) a b ≡ cell n v a b =
-      λ a b ha hb ne. set-col n v i j (cell n v i j + idle) hj a b hb ne in
+  pub pad-law : {w : List ℕ} → Gave n v w i j idle → PaddedAt n v lack w (set (set lack i (row - idle)) (n + j) (column - idle)) i j
+  pad-law {w} gave =
+      let here : cell n (paddedIn w) i j ≡ cell n (paddedIn v) i j + idle =
+      rw (gave .padded) (set-here n (paddedIn v) i j (cell n (paddedIn v) i j + idle) hj (omega (arith, cell-lt n i j hi hj, c .square .cells, padded-length v))) in
+      let rows : (a b : ℕ) → a < n → b < n → (a ≡ i → ⊥) → cell n (paddedIn w) a b ≡ cell n (paddedIn v) a b =
+      λ a b ha hb ne. rw (gave .padded) (set-row n (paddedIn v) i j (cell n (paddedIn v) i j + idle) hj a b hb ne) in
+      let columns : (a b : ℕ) → a < n → b < n → (b ≡ j → ⊥) → cell n (paddedIn w) a b ≡ cell n (paddedIn v) a b =
+      λ a b ha hb ne. rw (gave .padded) (set-col n (paddedIn v) i j (cell n (paddedIn v) i j + idle) hj a b hb ne) in
       record {
         fuller = record {
           keeps = λ r l. record {
-            lines = λ ℓ hl. omega (arith, l .lines ℓ hl, lack-less ℓ, line-more n v (set v (i * n + j) (cell n v i j + idle)) i j idle hi hj here rows columns ℓ hl);
+            lines = λ ℓ hl. omega (arith, l .lines ℓ hl, lack-less ℓ, line-more n (paddedIn v) (paddedIn w) i j idle hi hj here rows columns ℓ hl);
           };
           lines = λ ℓ hl. omega (arith, lack-less ℓ);
           cells = λ a b ha hb. by-eq a i
               (λ e. by-eq b j (λ q. rw (e, q) (omega (arith, here))) (λ nb. omega (arith, columns a b ha hb nb)))
               (λ ne. omega (arith, rows a b ha hb ne));
+          kept = gave .kept;
         };
         none = by-lt row column
             (λ lt. inl (lack-row ∙ omega arith))
@@ -165,13 +180,14 @@ module _ {n : ℕ} {v lack : List ℕ} (c : CanPad n v lack) {i j : ℕ} (hi : i
 
 -- ---- the pairs of a row, and all rows
 fuller-none : (n : ℕ) (v lack : List ℕ) → Fuller n v lack v lack
-fuller-none n v lack = record { keeps = λ r l. l; lines = λ ℓ h. omega arith; cells = λ i j hi hj. omega arith }
+fuller-none n v lack = record { keeps = λ r l. l; lines = λ ℓ h. omega arith; cells = λ i j hi hj. omega arith; kept = refl }
 
 fuller-more : {n : ℕ} {v lack v' lack' v'' lack'' : List ℕ} → Fuller n v lack v' lack' → Fuller n v' lack' v'' lack'' → Fuller n v lack v'' lack''
 fuller-more a b = record {
   keeps = λ r l. b .keeps r (a .keeps r l);
   lines = λ ℓ h. omega (arith, a .lines ℓ h, b .lines ℓ h);
   cells = λ i j hi hj. omega (arith, a .cells i j hi hj, b .cells i j hi hj);
+  kept = b .kept ∙ a .kept;
 }
 
 -- a line that lacks nothing goes on to lack nothing
@@ -242,12 +258,12 @@ module _ {n : ℕ} {v lack : List ℕ} {r : ℕ} (l : Lacks n v lack r) (none : 
   same-lack : sumTo n (λ i. getD lack i 0) ≡ sumTo n (λ j. getD lack (n + j) 0)
   same-lack = omega (
     arith,
-    sum-ext n (λ i. lineSum n v i + getD lack i 0) (λ i. r) (λ i hi. l .lines i (omega arith)),
-    sum-ext n (λ j. lineSum n v (n + j) + getD lack (n + j) 0) (λ j. r) (λ j hj. l .lines (n + j) (omega arith)),
-    sum-add n (lineSum n v) (λ i. getD lack i 0),
-    sum-add n (λ j. lineSum n v (n + j)) (λ j. getD lack (n + j) 0),
-    total-rows n v,
-    total-columns n v,
+    sum-ext n (λ i. lineSum n (paddedIn v) i + getD lack i 0) (λ i. r) (λ i hi. l .lines i (omega arith)),
+    sum-ext n (λ j. lineSum n (paddedIn v) (n + j) + getD lack (n + j) 0) (λ j. r) (λ j hj. l .lines (n + j) (omega arith)),
+    sum-add n (lineSum n (paddedIn v)) (λ i. getD lack i 0),
+    sum-add n (λ j. lineSum n (paddedIn v) (n + j)) (λ j. getD lack (n + j) 0),
+    total-rows n (paddedIn v),
+    total-columns n (paddedIn v),
   )
 
   no-row : (i : ℕ) → i < n → getD lack i 0 ≡ 0
@@ -268,26 +284,57 @@ module _ {n : ℕ} {v lack : List ℕ} {r : ℕ} (l : Lacks n v lack r) (none : 
       by-lt ℓ n (λ lt. no-row ℓ lt)
       (λ le. let e : n + (ℓ - n) ≡ ℓ = omega arith in rw e at (no-column (ℓ - n) (omega arith)))
 
-  pub full-lines : (ℓ : ℕ) → ℓ < 2 * n → lineSum n v ℓ ≡ r
+  pub full-lines : (ℓ : ℕ) → ℓ < 2 * n → lineSum n (paddedIn v) ℓ ≡ r
   full-lines ℓ hl = omega (arith, l .lines ℓ hl, no-lack ℓ hl)
 
 pub all-end : {n : ℕ} {v lack v' lack' : List ℕ} {m : ℕ} → AllPadding n v lack v' lack' m → n ≤ m → PaddedAll n v v' lack
 all-end g le = record {
   lines = λ r l. full-lines (g .fuller .keeps r l) (λ i j hi hj. g .none i (omega arith) j hj);
   cells = g .fuller .cells;
+  kept = g .fuller .kept;
+}
+
+-- ---- idle slots for pairs that keep nothing
+pub record Sparing (n : ℕ) (v lack v' lack' : List ℕ) (m : ℕ) : Type 0 where
+  pub within : m ≤ n
+  pub fuller : Fuller n v lack v' lack'
+  pub table-len : length v' ≡ length v
+  pub lack-len : length lack' ≡ length lack
+
+pub spare-start : (n : ℕ) (v lack : List ℕ) → Sparing n v lack v lack 0
+spare-start n v lack = record { within = omega arith; fuller = fuller-none n v lack; table-len = refl; lack-len = refl }
+
+pub spare-can : {n : ℕ} {v lack v' lack' : List ℕ} {m : ℕ} → CanPad n v lack → Sparing n v lack v' lack' m → CanPad n v' lack'
+spare-can c g = can-kept (g .table-len) (g .lack-len) (g .fuller) c
+
+pub spare-skip : {n : ℕ} {v lack v' lack' : List ℕ} {m : ℕ} → m < n → Sparing n v lack v' lack' m → Sparing n v lack v' lack' (m + 1)
+spare-skip lt g = record { within = omega arith; fuller = g .fuller; table-len = g .table-len; lack-len = g .lack-len }
+
+pub spare-step : {n : ℕ} {v lack v' lack' v'' lack'' : List ℕ} {m : ℕ} → m < n → Sparing n v lack v' lack' m → length v'' ≡ length v' → length lack'' ≡ length lack'
+    → Fuller n v' lack' v'' lack'' → Sparing n v lack v'' lack'' (m + 1)
+spare-step lt g ev el f = record {
+  within = omega arith;
+  fuller = fuller-more (g .fuller) f;
+  table-len = ev ∙ g .table-len;
+  lack-len = el ∙ g .lack-len;
 }
 
 -- ---- the whole
 pub most-small : {n : ℕ} {kept sums : List ℕ} {r : ℕ} → Small n kept → LineSums n kept sums → Largest n sums r → r ≤ 1024
 most-small small s t = t .least 1024 (λ ℓ h. omega (arith, s .all ℓ h, small .lines ℓ h))
 
-module _ {n : ℕ} {kept v sums : List ℕ} {r : ℕ} (c : Copied n kept v) (s : LineSums n kept sums) (t : Largest n sums r) where
-  pub lacks-of : {lack : List ℕ} → Lacking n sums lack r → Lacks n v lack r
-  lacks-of k = record { lines = λ ℓ h. omega (arith, k .all ℓ h, s .all ℓ h, line-ext n v kept (c .cells) ℓ h) }
+-- v is the loaded table, and w the same with idle slots at pairs that keep nothing
+module _ {n : ℕ} {kept v sums : List ℕ} {r : ℕ} (c : Loaded n kept v) (s : LineSums n kept sums) (t : Largest n sums r) {lack : List ℕ} (k : Lacking n sums lack r) where
+  pub lacks-of : Lacks n v lack r
+  lacks-of = record { lines = λ ℓ h. omega (arith, k .all ℓ h, s .all ℓ h, line-ext n (paddedIn v) kept (c .padded) ℓ h) }
 
-  pub padded-of : {v' lack : List ℕ} → Lacking n sums lack r → PaddedAll n v v' lack → Padded n kept v' r
-  padded-of k p = record {
-    lines = p .lines r (lacks-of k);
-    cells = λ i j hi hj. omega (arith, p .cells i j hi hj, c .cells i j hi hj);
+  pub loaded-can : CanFill n kept → length v ≡ length kept → 2 * n ≤ length lack → CanPad n v lack
+  loaded-can f e le = record { square = square-kept kept v e (f .square); lines = le; r = r; small = most-small (f .small) s t; lacks = lacks-of }
+
+  pub padded-of : {w lack' w' : List ℕ} → Fuller n v lack w lack' → PaddedAll n w w' lack' → Padded n kept w' r
+  padded-of f p = record {
+    lines = p .lines r (f .keeps r lacks-of);
+    cells = λ i j hi hj. omega (arith, f .cells i j hi hj, p .cells i j hi hj, c .padded i j hi hj);
+    keeps = λ i j hi hj. ap (λ (x : List ℕ). cell n x i j) (p .kept ∙ f .kept) ∙ c .keeps i j hi hj;
     least = λ b h. t .least b (λ ℓ hl. omega (arith, s .all ℓ hl, h ℓ hl));
   }

@@ -1,4 +1,4 @@
--- Idle slots beside the kept ones, until every line has one sum. `lack` has for each of the 2N lines what it lacks.
+-- Idle slots beside the kept ones, in the kept table itself, until every line has one sum. `lack` has for each of the 2N lines what it lacks.
 use Prim.Native.Nat.{ℕ, _+_, _*_, _<_, _≤_}
 use mathlib.Core.Path.{_≡_}
 use mathlib.Core.Logic.{_⊎_}
@@ -7,13 +7,16 @@ use lib.ListN.{length, getD}
 use Rattle.sums.specs.Tables.{cell}
 use Rattle.star.specs.Tables.{Square}
 use Rattle.star.specs.Lines.{lineSum}
+use Rattle.cells.specs.Cells.{paddedIn, keptIn}
 
 -- no line is above 1,024, the most that a frame has
 pub record Small (n : ℕ) (kept : List ℕ) : Type 0 where
   pub lines : (ℓ : ℕ) → ℓ < 2 * n → lineSum n kept ℓ ≤ 1024
 
-pub record Copied (n : ℕ) (kept table : List ℕ) : Type 0 where
-  pub cells : (i j : ℕ) → i < n → j < n → cell n table i j ≡ cell n kept i j
+-- each pair keeps what it did, and gets as much
+pub record Loaded (n : ℕ) (kept table : List ℕ) : Type 0 where
+  pub padded : (i j : ℕ) → i < n → j < n → cell n (paddedIn table) i j ≡ cell n kept i j
+  pub keeps : (i j : ℕ) → i < n → j < n → cell n (keptIn table) i j ≡ cell n kept i j
 
 pub record LineSums (n : ℕ) (kept sums : List ℕ) : Type 0 where
   pub all : (ℓ : ℕ) → ℓ < 2 * n → getD sums ℓ 0 ≡ lineSum n kept ℓ
@@ -27,43 +30,45 @@ pub record Lacking (n : ℕ) (sums lack : List ℕ) (r : ℕ) : Type 0 where
   pub all : (ℓ : ℕ) → ℓ < 2 * n → getD sums ℓ 0 + getD lack ℓ 0 ≡ r
 
 -- each line's sum and what it lacks make r
-pub record Lacks (n : ℕ) (v lack : List ℕ) (r : ℕ) : Type 0 where
-  pub lines : (ℓ : ℕ) → ℓ < 2 * n → lineSum n v ℓ + getD lack ℓ 0 ≡ r
+pub record Lacks (n : ℕ) (x lack : List ℕ) (r : ℕ) : Type 0 where
+  pub lines : (ℓ : ℕ) → ℓ < 2 * n → lineSum n (paddedIn x) ℓ + getD lack ℓ 0 ≡ r
 
-pub record CanPad (n : ℕ) (v lack : List ℕ) : Type 0 where
-  pub square : Square n v
+pub record CanPad (n : ℕ) (x lack : List ℕ) : Type 0 where
+  pub square : Square n x
   pub lines : 2 * n ≤ length lack
   pub r : ℕ
   pub small : r ≤ 1024
-  pub lacks : Lacks n v lack r
+  pub lacks : Lacks n x lack r
 
--- the lines lack no more than before, and the pairs have no less
-pub record Fuller (n : ℕ) (v lack v' lack' : List ℕ) : Type 0 where
-  pub keeps : (r : ℕ) → Lacks n v lack r → Lacks n v' lack' r
+-- the lines lack no more than before, and the pairs get no less and keep what they did
+pub record Fuller (n : ℕ) (x lack x' lack' : List ℕ) : Type 0 where
+  pub keeps : (r : ℕ) → Lacks n x lack r → Lacks n x' lack' r
   pub lines : (ℓ : ℕ) → ℓ < 2 * n → getD lack' ℓ 0 ≤ getD lack ℓ 0
-  pub cells : (i j : ℕ) → i < n → j < n → cell n v i j ≤ cell n v' i j
+  pub cells : (i j : ℕ) → i < n → j < n → cell n (paddedIn x) i j ≤ cell n (paddedIn x') i j
+  pub kept : keptIn x' ≡ keptIn x
 
-pub record PaddedAt (n : ℕ) (v lack v' lack' : List ℕ) (i j : ℕ) : Type 0 where
-  pub fuller : Fuller n v lack v' lack'
+pub record PaddedAt (n : ℕ) (x lack x' lack' : List ℕ) (i j : ℕ) : Type 0 where
+  pub fuller : Fuller n x lack x' lack'
   pub none : (getD lack' i 0 ≡ 0) ⊎ (getD lack' (n + j) 0 ≡ 0)
 
 -- the first m pairs of source i are done
-pub record PaddedRow (n : ℕ) (v lack v' lack' : List ℕ) (i m : ℕ) : Type 0 where
-  pub fuller : Fuller n v lack v' lack'
+pub record PaddedRow (n : ℕ) (x lack x' lack' : List ℕ) (i m : ℕ) : Type 0 where
+  pub fuller : Fuller n x lack x' lack'
   pub none : (j : ℕ) → j < m → (getD lack' i 0 ≡ 0) ⊎ (getD lack' (n + j) 0 ≡ 0)
 
 -- no line lacks any more
-pub record PaddedAll (n : ℕ) (v v' lack : List ℕ) : Type 0 where
-  pub lines : (r : ℕ) → Lacks n v lack r → (ℓ : ℕ) → ℓ < 2 * n → lineSum n v' ℓ ≡ r
-  pub cells : (i j : ℕ) → i < n → j < n → cell n v i j ≤ cell n v' i j
+pub record PaddedAll (n : ℕ) (x x' lack : List ℕ) : Type 0 where
+  pub lines : (r : ℕ) → Lacks n x lack r → (ℓ : ℕ) → ℓ < 2 * n → lineSum n (paddedIn x') ℓ ≡ r
+  pub cells : (i j : ℕ) → i < n → j < n → cell n (paddedIn x) i j ≤ cell n (paddedIn x') i j
+  pub kept : keptIn x' ≡ keptIn x
 
-pub record CanFill (n : ℕ) (kept padded : List ℕ) : Type 0 where
+pub record CanFill (n : ℕ) (kept : List ℕ) : Type 0 where
   pub square : Square n kept
   pub small : Small n kept
-  pub table : Square n padded
 
--- the matrix with idle slots: every line sums to r, the matrix's largest line sum
-pub record Padded (n : ℕ) (kept padded : List ℕ) (r : ℕ) : Type 0 where
-  pub lines : (ℓ : ℕ) → ℓ < 2 * n → lineSum n padded ℓ ≡ r
-  pub cells : (i j : ℕ) → i < n → j < n → cell n kept i j ≤ cell n padded i j
+-- the matrix, and the same with idle slots: every line sums to r, the matrix's largest line sum
+pub record Padded (n : ℕ) (kept table : List ℕ) (r : ℕ) : Type 0 where
+  pub lines : (ℓ : ℕ) → ℓ < 2 * n → lineSum n (paddedIn table) ℓ ≡ r
+  pub cells : (i j : ℕ) → i < n → j < n → cell n kept i j ≤ cell n (paddedIn table) i j
+  pub keeps : (i j : ℕ) → i < n → j < n → cell n (keptIn table) i j ≡ cell n kept i j
   pub least : (b : ℕ) → ((ℓ : ℕ) → ℓ < 2 * n → lineSum n kept ℓ ≤ b) → r ≤ b

@@ -1,21 +1,20 @@
 // Filling a kept matrix up with idle slots until every line has one sum, the largest line sum of the matrix.
 use arrays::lists;
-use arrays::tables;
 use star::numbers::smaller;
 ghost use Prim.Native.Nat.{_*_, _<_, _≤_};
 ghost use lib.ListN.{length};
 ghost use Rattle.star.specs.Tables.{Square};
-ghost use Rattle.idle.specs.Idle.{Small, Copied, LineSums, Largest, Lacking, CanPad, PaddedAt, PaddedRow, PaddedAll, CanFill, Padded};
+ghost use Rattle.idle.specs.Idle.{Small, Loaded, LineSums, Largest, Lacking, CanPad, Fuller, PaddedAt, PaddedRow, PaddedAll, CanFill, Padded};
 
-// The table holds the matrix from now on.
-pub fn copy(n: usize, kept: &[u32], table: &mut [u16])
-    requires { ⌜ (Square n (now kept)) × (Square n (now table)) × (Small n (now kept)) ⌝ }
-    ensures { λ _. ⌜ Copied n (now (kept .entry)) (now (table .exit)) ⌝ }
+// Every pair gets what it keeps.
+fn load(n: usize, table: &mut [u32])
+    requires { ⌜ (Square n (now table)) × (Small n (now table)) ⌝ }
+    ensures { λ _. ⌜ Loaded n (now (table .entry)) (now (table .exit)) ⌝ }
 {
     let cells = n * n;
     let mut p = 0;
     while p < cells {
-        lists::put_number(table, p, kept[p]);
+        table[p] = table[p] * 65537;
         p += 1;
     }
 }
@@ -64,63 +63,104 @@ fn lacks(n: usize, lack: &mut [u16], r: u32)
 }
 
 // Gives the pair as many idle slots as its row and its column both lack.
-fn pad_at(n: usize, padded: &mut [u16], lack: &mut [u16], i: usize, j: usize)
-    requires { ⌜ CanPad n (now padded) (now lack) ⌝ }
+fn pad_at(n: usize, table: &mut [u32], lack: &mut [u16], i: usize, j: usize)
+    requires { ⌜ CanPad n (now table) (now lack) ⌝ }
     requires { ⌜ (i < n) × (j < n) ⌝ }
-    ensures { λ _. ⌜ PaddedAt n (now (padded .entry)) (now (lack .entry)) (now (padded .exit)) (now (lack .exit)) i j ⌝ }
+    ensures { λ _. ⌜ PaddedAt n (now (table .entry)) (now (lack .entry)) (now (table .exit)) (now (lack .exit)) i j ⌝ }
 {
     let row = lists::number(lack, i);
     let column = lists::number(lack, n + j);
     let idle = smaller(row, column);
-    tables::put(n, padded, i, j, tables::get(n, padded, i, j) + idle);
+    cells::give(n, table, i, j, idle);
     lists::put_number(lack, i, row - idle);
     lists::put_number(lack, n + j, column - idle);
 }
 
-// Gives the pairs of source i as many idle slots as their lines lack.
-fn pad_row(n: usize, padded: &mut [u16], lack: &mut [u16], i: usize)
-    requires { ⌜ CanPad n (now padded) (now lack) ⌝ }
+// The destination after j; after the last one the first.
+fn after(n: usize, j: usize) -> usize
+    requires { ⌜ (n ≤ 64) × (j < n) ⌝ }
+    ensures { λ r. ⌜ r < n ⌝ }
+{
+    if j + 1 < n { j + 1 } else { 0 }
+}
+
+// Gives idle slots to the pairs of source i that keep nothing, from destination i on: a pair that is idle only never changes by itself.
+fn spare_row(n: usize, table: &mut [u32], lack: &mut [u16], i: usize)
+    requires { ⌜ CanPad n (now table) (now lack) ⌝ }
     requires { ⌜ i < n ⌝ }
-    ensures { λ _. ⌜ PaddedRow n (now (padded .entry)) (now (lack .entry)) (now (padded .exit)) (now (lack .exit)) i n ⌝ }
+    ensures { λ _. ⌜ Fuller n (now (table .entry)) (now (lack .entry)) (now (table .exit)) (now (lack .exit)) ⌝ }
+{
+    let mut j = i;
+    let mut passed = 0;
+    while passed < n {
+        if cells::kept(n, table, i, j) > 0 {
+            j = after(n, j);
+            passed += 1;
+            continue;
+        }
+        pad_at(n, table, lack, i, j);
+        j = after(n, j);
+        passed += 1;
+    }
+}
+
+// Gives idle slots to all pairs that keep nothing.
+fn spare_all(n: usize, table: &mut [u32], lack: &mut [u16])
+    requires { ⌜ CanPad n (now table) (now lack) ⌝ }
+    ensures { λ _. ⌜ Fuller n (now (table .entry)) (now (lack .entry)) (now (table .exit)) (now (lack .exit)) ⌝ }
+{
+    let mut i = 0;
+    while i < n {
+        spare_row(n, table, lack, i);
+        i += 1;
+    }
+}
+
+// Gives the pairs of source i as many idle slots as their lines lack.
+fn pad_row(n: usize, table: &mut [u32], lack: &mut [u16], i: usize)
+    requires { ⌜ CanPad n (now table) (now lack) ⌝ }
+    requires { ⌜ i < n ⌝ }
+    ensures { λ _. ⌜ PaddedRow n (now (table .entry)) (now (lack .entry)) (now (table .exit)) (now (lack .exit)) i n ⌝ }
 {
     let mut j = 0;
     while j < n {
-        pad_at(n, padded, lack, i, j);
+        pad_at(n, table, lack, i, j);
         j += 1;
     }
 }
 
 // Gives all pairs as many idle slots as their lines lack.
-fn pad_all(n: usize, padded: &mut [u16], lack: &mut [u16])
-    requires { ⌜ CanPad n (now padded) (now lack) ⌝ }
-    ensures { λ _. ⌜ PaddedAll n (now (padded .entry)) (now (padded .exit)) (now (lack .entry)) ⌝ }
+fn pad_all(n: usize, table: &mut [u32], lack: &mut [u16])
+    requires { ⌜ CanPad n (now table) (now lack) ⌝ }
+    ensures { λ _. ⌜ PaddedAll n (now (table .entry)) (now (table .exit)) (now (lack .entry)) ⌝ }
 {
     let mut i = 0;
     while i < n {
-        pad_row(n, padded, lack, i);
+        pad_row(n, table, lack, i);
         i += 1;
     }
 }
 
 // Pads the matrix, with a list to work in for what the lines lack.
-fn pad_with(n: usize, kept: &[u32], padded: &mut [u16], lack: &mut [u16]) -> u32
-    requires { ⌜ CanFill n (now kept) (now padded) ⌝ }
+fn pad_with(n: usize, table: &mut [u32], lack: &mut [u16]) -> u32
+    requires { ⌜ CanFill n (now table) ⌝ }
     requires { ⌜ 2 * n ≤ length (now lack) ⌝ }
-    ensures { λ r. ⌜ Padded n (now (kept .entry)) (now (padded .exit)) r ⌝ }
+    ensures { λ r. ⌜ Padded n (now (table .entry)) (now (table .exit)) r ⌝ }
 {
-    copy(n, kept, padded);
-    line_sums(n, kept, lack);
+    line_sums(n, table, lack);
     let r = largest(n, lack);
     lacks(n, lack, r);
-    pad_all(n, padded, lack);
+    load(n, table);
+    spare_all(n, table, lack);
+    pad_all(n, table, lack);
     r
 }
 
-// The table holds the matrix with idle slots, so that every line sums to the answer: the matrix's largest line sum.
-pub fn pad(n: usize, kept: &[u32], padded: &mut [u16]) -> u32
-    requires { ⌜ CanFill n (now kept) (now padded) ⌝ }
-    ensures { λ r. ⌜ Padded n (now (kept .entry)) (now (padded .exit)) r ⌝ }
+// The table holds the matrix and the same with idle slots, where every line sums to the answer: the matrix's largest line sum.
+pub fn pad(n: usize, table: &mut [u32]) -> u32
+    requires { ⌜ CanFill n (now table) ⌝ }
+    ensures { λ r. ⌜ Padded n (now (table .entry)) (now (table .exit)) r ⌝ }
 {
     let mut lack = [0u16; 128];
-    pad_with(n, kept, padded, &mut lack)
+    pad_with(n, table, &mut lack)
 }

@@ -68,11 +68,11 @@ pub extern "C" fn lab_keep(
 
 // `slots::placing::place`.
 #[no_mangle]
-pub extern "C" fn lab_place(n: usize, l: usize, kept: &[u32], schedule: &mut [u8])
+pub extern "C" fn lab_place(n: usize, l: usize, kept: &mut [u32], schedule: &mut [u8]) -> u32
     requires { ⌜ CanPlace n l (now kept) (now schedule) ⌝ }
-    ensures { λ _. ⌜ Places n l (now (kept .entry)) (now (schedule .entry)) (now (schedule .exit)) ⌝ }
+    ensures { λ changes. ⌜ Places n l (now (kept .entry)) (now (schedule .entry)) (now (kept .exit)) (now (schedule .exit)) changes ⌝ }
 {
-    slots::placing::place(n, l, kept, schedule);
+    slots::placing::place(n, l, kept, schedule)
 }
 
 // `changes::reconfigurations`.

@@ -16,7 +16,7 @@ use Rattle.nodes.specs.Sets.{member, size, Without, First}
 use Rattle.nodes.proofs.Members.{member-lt}
 use Rattle.nodes.proofs.Sizes.{size-without}
 use Rattle.pairs.specs.Pairs.{allowed, taken, Paired, CanMatch, Matched}
-use Rattle.pairs.specs.Ways.{Unpaired, Fewer, Choice, Ready, CanSearch, Searched, CanFlip, Flipped}
+use Rattle.pairs.specs.Ways.{Unpaired, Fewer, Choice, Directed, CanSearch, Searched, CanFlip, Flipped}
 
 -- ---- free nodes
 pub fewer-free : {n : ℕ} {x y : List ℕ} {s s' e : ℕ} → Unpaired n x s → Fewer n x y e → Without s e s' → Unpaired n y s'
@@ -77,19 +77,107 @@ fewer-set x {e} {v} fits he was hv =
       frees = λ k hk le ne. omega (arith, getD-set-other x e k v 0 ne);
     }
 
--- ---- between two turns
+-- what has no partner now had none
+fewer-was : {n : ℕ} {x y : List ℕ} {e : ℕ} → Fewer n x y e → (k : ℕ) → k < n → n ≤ getD y k 0 → n ≤ getD x k 0
+fewer-was {n} {x} f k hk le = by-lt (getD x k 0) n (λ lt. absurd (omega (arith, f .stays k hk lt))) (λ h. h)
+
+-- ---- the destinations that have left `todo` are paired, or may hear none of the free sources
+pub record Directing (n : ℕ) (may source0 destination0 source destination : List ℕ) (todo sources : ℕ) : Type 0 where
+  pub paired : Paired n may source destination
+  pub free-sources : Unpaired n destination sources
+  pub free : (j : ℕ) → j < n → member j todo ≡ 1 → n ≤ getD source j 0
+  pub dry : (j : ℕ) → j < n → member j todo ≡ 0 → n ≤ getD source j 0 → (i : ℕ) → i < n → n ≤ getD destination i 0 → allowed may i j ≡ 1 → ⊥
+  pub source-len : length source ≡ length source0
+  pub destination-len : length destination ≡ length destination0
+
+pub direct-start : {n : ℕ} {may source destination : List ℕ} {todo sources : ℕ} → CanMatch n may source destination → Unpaired n source todo → Unpaired n destination sources
+    → Directing n may source destination source destination todo sources
+direct-start c d s = record {
+  paired = c .paired;
+  free-sources = s;
+  free = d .out;
+  dry = λ j hj z le. absurd (omega (arith, d .in' j hj le));
+  source-len = refl;
+  destination-len = refl;
+}
+
+module _ {n : ℕ} {may source0 destination0 source destination : List ℕ} {todo sources j : ℕ}
+    (c : CanMatch n may source0 destination0) (g : Directing n may source0 destination0 source destination todo sources) (f : First todo j) where
+  pub direct-end : n ≤ j → Directed n may source destination
+  direct-end le = record { paired = g .paired; dry = λ u hu. g .dry u hu (f .before u (omega arith)) }
+
+  module _ (hj : j < n) {todo' : ℕ} (w : Without todo j todo') where
+    here-todo : member j todo ≡ 1
+    here-todo = f .found (omega (arith, c .rooms .nodes))
+
+    pub direct-falls : size n todo' < size n todo
+    direct-falls = omega (arith, size-without n todo todo' j hj here-todo w)
+
+    still-todo : (u : ℕ) → member u todo' ≡ 1 → member u todo ≡ 1
+    still-todo u e = by-eq u j (λ q. absurd (omega (arith, w .here, ap (λ (x : ℕ). member x todo') q))) (λ ne. sym (w .other u ne) ∙ e)
+
+    module _ {i : ℕ} (ch : Choice n may sources j i) where
+      pub direct-skip : n ≤ i → Directing n may source0 destination0 source destination todo' sources
+      direct-skip le = record {
+        paired = g .paired;
+        free-sources = g .free-sources;
+        free = λ u hu e. g .free u hu (still-todo u e);
+        dry = λ u hu z lo a ha free-a ok. by-eq u j
+            (λ q. ch .none le a ha (g .free-sources .in' a ha free-a) (ap (λ (x : ℕ). allowed may a x) (sym q) ∙ ok))
+            (λ ne. g .dry u hu (sym (w .other u ne) ∙ z) lo a ha free-a ok);
+        source-len = g .source-len;
+        destination-len = g .destination-len;
+      }
+
+      pub direct-pair : {sources' : ℕ} → i < n → Without sources i sources' → Directing n may source0 destination0 (set source j i) (set destination i j) todo' sources'
+      direct-pair {sources'} hi ws =
+          let fits : n ≤ length source = omega (arith, c .rooms .sources, g .source-len) in
+          let fitd : n ≤ length destination = omega (arith, c .rooms .destinations, g .destination-len) in
+          let free-i : n ≤ getD destination i 0 = g .free-sources .out i hi (ch .among hi) in
+          let free-j : n ≤ getD source j 0 = g .free j hj here-todo in
+          let source-here : getD (set source j i) j 0 ≡ i = getD-set-same source j i 0 (omega arith) in
+          let destination-here : getD (set destination i j) i 0 ≡ j = getD-set-same destination i j 0 (omega arith) in
+          record {
+            paired = pair-step (g .paired) fits fitd hi hj free-i free-j (ch .allows hi);
+            free-sources = fewer-free (g .free-sources) (fewer-set destination fitd hi free-i hj) ws;
+            free = λ u hu e. by-eq u j
+                (λ q. absurd (omega (arith, w .here, ap (λ (x : ℕ). member x todo') q)))
+                (λ ne. omega (arith, getD-set-other source j u i 0 ne, g .free u hu (still-todo u e)));
+            dry = λ u hu z lo a ha free-a ok. by-eq u j
+                (λ q. absurd (omega (arith, source-here, ap (λ (x : ℕ). getD (set source j i) x 0) q)))
+                (λ ne. by-eq a i
+                (λ q. absurd (omega (arith, destination-here, ap (λ (x : ℕ). getD (set destination i j) x 0) q)))
+                (λ na. g .dry u hu (sym (w .other u ne) ∙ z) (omega (arith, getD-set-other source j u i 0 ne)) a ha (omega (arith, getD-set-other destination i a j 0 na)) ok));
+            source-len = length-set source j i ∙ g .source-len;
+            destination-len = length-set destination i j ∙ g .destination-len;
+          }
+
+-- ---- between two ways
 pub record Working (n : ℕ) (may source0 destination0 next0 source destination next : List ℕ) (sources destinations : ℕ) : Type 0 where
   pub paired : Paired n may source destination
   pub free-sources : Unpaired n destination sources
   pub free-destinations : Unpaired n source destinations
+  pub dry : (j : ℕ) → j < n → n ≤ getD source j 0 → (i : ℕ) → i < n → n ≤ getD destination i 0 → allowed may i j ≡ 1 → ⊥
   pub source-len : length source ≡ length source0
   pub destination-len : length destination ≡ length destination0
   pub next-len : length next ≡ length next0
 
+pub work-start : {n : ℕ} {may source destination next : List ℕ} {sources destinations : ℕ} → Directed n may source destination → Unpaired n destination sources → Unpaired n source destinations
+    → Working n may source destination next source destination next sources destinations
+work-start d s t = record {
+  paired = d .paired;
+  free-sources = s;
+  free-destinations = t;
+  dry = d .dry;
+  source-len = refl;
+  destination-len = refl;
+  next-len = refl;
+}
+
 module _ {n : ℕ} {may source0 destination0 next0 source destination next : List ℕ} {sources destinations : ℕ}
     (c : CanMatch n may source0 destination0) (fits : n ≤ length next0) (g : Working n may source0 destination0 next0 source destination next sources destinations) where
-  pub work-search : {j : ℕ} → Ready n may sources destinations j → n ≤ j → CanSearch n may destination next sources destinations
-  work-search r le = record {
+  pub work-search : CanSearch n may destination next sources destinations
+  work-search = record {
     nodes = c .rooms .nodes;
     mays = c .rooms .mays;
     lists = omega (arith, c .rooms .destinations, g .destination-len);
@@ -103,7 +191,7 @@ module _ {n : ℕ} {may source0 destination0 next0 source destination next : Lis
           g .free-destinations .out (getD destination i 0) lt (omega (arith, member-lt (getD destination i 0) destinations)),
           g .paired .forth i hi lt,
         )));
-    dry = r .none le;
+    dry = λ j hj ej i hi ei. g .dry j hj (g .free-destinations .out j hj ej) i hi (g .free-sources .out i hi ei);
   }
 
   pub work-flip : {next' : List ℕ} {r : ℕ} → length next' ≡ length next → Searched n may destination next' destinations r → r < n → CanFlip n may source destination next' r
@@ -124,32 +212,11 @@ module _ {n : ℕ} {may source0 destination0 next0 source destination next : Lis
     paired = f .paired;
     free-sources = fewer-free (g .free-sources) (f .source-new) ws;
     free-destinations = fewer-free (g .free-destinations) (f .destination-new) wd;
+    dry = λ j hj lo i hi up. g .dry j hj (fewer-was (f .destination-new) j hj lo) i hi (fewer-was (f .source-new) i hi up);
     source-len = ls ∙ g .source-len;
     destination-len = ld ∙ g .destination-len;
     next-len = ln ∙ g .next-len;
   }
-
-  -- a pair that takes no moving
-  module _ {i j : ℕ} (r : Ready n may sources destinations j) (hj : j < n) (ch : Choice n may sources j i) (hi : i < n) where
-    free-i : n ≤ getD destination i 0
-    free-i = g .free-sources .out i hi (ch .among hi)
-
-    free-j : n ≤ getD source j 0
-    free-j = g .free-destinations .out j hj (r .among hj)
-
-    pub work-paired : {sources' destinations' : ℕ} → Without sources i sources' → Without destinations j destinations'
-        → Working n may source0 destination0 next0 (set source j i) (set destination i j) next sources' destinations'
-    work-paired ws wd = record {
-      paired = pair-step (g .paired) (omega (arith, c .rooms .sources, g .source-len)) (omega (arith, c .rooms .destinations, g .destination-len)) hi hj free-i free-j (ch .allows hi);
-      free-sources = fewer-free (g .free-sources) (fewer-set destination (omega (arith, c .rooms .destinations, g .destination-len)) hi free-i hj) ws;
-      free-destinations = fewer-free (g .free-destinations) (fewer-set source (omega (arith, c .rooms .sources, g .source-len)) hj free-j hi) wd;
-      source-len = length-set source j i ∙ g .source-len;
-      destination-len = length-set destination i j ∙ g .destination-len;
-      next-len = g .next-len;
-    }
-
-    pub work-falls : {destinations' : ℕ} → Without destinations j destinations' → size n destinations' < size n destinations
-    work-falls {destinations'} wd = omega (arith, size-without n destinations destinations' j hj (r .among hj) wd)
 
   -- ---- the end
   pub work-all : {j : ℕ} → First destinations j → n ≤ j → Matched n may source destination true

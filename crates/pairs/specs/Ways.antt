@@ -33,12 +33,10 @@ pub record Hears (n : ℕ) (may : List ℕ) (sources j : ℕ) : Type 0 where
   pub among : member who sources ≡ 1
   pub allows : allowed may who j ≡ 1
 
--- r is one of the destinations that may hear one of the sources, or there is none
-pub record Ready (n : ℕ) (may : List ℕ) (sources destinations r : ℕ) : Type 0 where
-  pub within : r ≤ n
-  pub among : r < n → member r destinations ≡ 1
-  pub hears : r < n → Hears n may sources r
-  pub none : n ≤ r → (j : ℕ) → j < n → member j destinations ≡ 1 → (i : ℕ) → i < n → member i sources ≡ 1 → allowed may i j ≡ 1 → ⊥
+-- pairs, where no destination without a source may hear a source without a destination
+pub record Directed (n : ℕ) (may source destination : List ℕ) : Type 0 where
+  pub paired : Paired n may source destination
+  pub dry : (j : ℕ) → j < n → n ≤ getD source j 0 → (i : ℕ) → i < n → n ≤ getD destination i 0 → allowed may i j ≡ 1 → ⊥
 
 -- the sources of the set have a destination
 pub record Settled (n : ℕ) (destination : List ℕ) (new : ℕ) : Type 0 where

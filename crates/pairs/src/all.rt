@@ -1,13 +1,38 @@
-// Pairing as many as can be.
+// Pairing as many as can be: first those that take no moving, and then by ways.
 use crate::flip;
 use crate::search;
 use arrays::lists;
 ghost use Prim.Native.Nat.{_≤_};
 ghost use lib.ListN.{length};
 ghost use Rattle.pairs.specs.Pairs.{CanMatch, Matched};
+ghost use Rattle.pairs.specs.Ways.{Directed};
 
-// Pairs all destinations, with a list to work in for the ways that are found.
-fn match_with(
+// Each free destination takes a free source that it may hear, where there is one. One that finds none finds none later either, since free
+// sources only get fewer.
+fn direct(n: usize, may: &[u64], source: &mut [u8], destination: &mut [u8])
+    requires { ⌜ CanMatch n (now may) (now source) (now destination) ⌝ }
+    ensures { λ _. ⌜ Directed n (now (may .entry)) (now (source .exit)) (now (destination .exit)) ⌝ }
+{
+    let mut todo = search::free(n, source);
+    let mut sources = search::free(n, destination);
+    loop {
+        let j = nodes::first(todo);
+        if j >= n {
+            return;
+        }
+        todo = nodes::without(todo, j);
+        let i = search::choice(n, may, sources, j);
+        if i >= n {
+            continue;
+        }
+        lists::put_byte(source, j, i);
+        lists::put_byte(destination, i, j);
+        sources = nodes::without(sources, i);
+    }
+}
+
+// Pairs the destinations that are left, by ways, with a list to work in for those.
+fn search_all(
     n: usize,
     may: &[u64],
     source: &mut [u8],
@@ -15,21 +40,12 @@ fn match_with(
     next: &mut [u8],
 ) -> bool
     requires { ⌜ CanMatch n (now may) (now source) (now destination) ⌝ }
-    requires { ⌜ n ≤ length (now next) ⌝ }
+    requires { ⌜ (Directed n (now may) (now source) (now destination)) × (n ≤ length (now next)) ⌝ }
     ensures { λ r. ⌜ Matched n (now (may .entry)) (now (source .exit)) (now (destination .exit)) r ⌝ }
 {
     let mut destinations = search::free(n, source);
     let mut sources = search::free(n, destination);
     loop {
-        let j = search::ready(n, may, sources, destinations);
-        if j < n {
-            let i = search::choice(n, may, sources, j);
-            lists::put_byte(source, j, i);
-            lists::put_byte(destination, i, j);
-            sources = nodes::without(sources, i);
-            destinations = nodes::without(destinations, j);
-            continue;
-        }
         if nodes::first(destinations) >= n {
             return true;
         }
@@ -49,5 +65,6 @@ pub fn match_all(n: usize, may: &[u64], source: &mut [u8], destination: &mut [u8
     ensures { λ r. ⌜ Matched n (now (may .entry)) (now (source .exit)) (now (destination .exit)) r ⌝ }
 {
     let mut next = [0u8; 64];
-    match_with(n, may, source, destination, &mut next)
+    direct(n, may, source, destination);
+    search_all(n, may, source, destination, &mut next)
 }

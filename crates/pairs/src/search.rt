@@ -3,7 +3,7 @@
 use arrays::lists;
 ghost use Prim.Native.Nat.{_<_, _≤_};
 ghost use lib.ListN.{length};
-ghost use Rattle.pairs.specs.Ways.{Unpaired, Choice, Ready, Settled, Peeked, Spread, CanSearch, Searched};
+ghost use Rattle.pairs.specs.Ways.{Unpaired, Choice, Settled, Peeked, Spread, CanSearch, Searched};
 
 // The nodes that have no partner in x.
 pub fn free(n: usize, x: &[u8]) -> u64
@@ -25,24 +25,6 @@ pub fn choice(n: usize, may: &[u64], sources: u64, j: usize) -> usize
     ensures { λ r. ⌜ Choice n (now (may .entry)) sources j r ⌝ }
 {
     nodes::first(nodes::both(sources, lists::set_at(may, j)))
-}
-
-// One of the destinations that may hear one of the sources, or n.
-pub fn ready(n: usize, may: &[u64], sources: u64, destinations: u64) -> usize
-    requires { ⌜ (n ≤ 64) × (n ≤ length (now may)) ⌝ }
-    ensures { λ r. ⌜ Ready n (now (may .entry)) sources destinations r ⌝ }
-{
-    let mut left = destinations;
-    loop {
-        let j = nodes::first(left);
-        if j >= n {
-            return n;
-        }
-        if choice(n, may, sources, j) < n {
-            return j;
-        }
-        left = nodes::without(left, j);
-    }
 }
 
 // One of the new sources whose destination may hear one of the sources, or n. So the search ends a step before it would meet them.

@@ -3,7 +3,6 @@ use crate::answers::Answer;
 use crate::checks::plan_verdict;
 use crate::kept::keep;
 use crate::kept::total;
-use changes::reconfigurations;
 use slots::placing::place;
 use star::refusals::Verdict;
 ghost use mathlib.Core.Path.{_≡_};
@@ -26,10 +25,9 @@ fn write(
     ensures { λ r. ⌜ (Wrote n l rule (now (cap .entry)) (now (demand .entry)) (now (kept .entry)) (now (withdrawn .entry)) (now (schedule .entry)) (now (kept .exit)) (now (withdrawn .exit)) (now (schedule .exit)) r) × (verdictOf r ≡ Accepted) ⌝ }
 {
     keep(n, rule, cap, demand, kept, withdrawn);
-    place(n, l, kept, schedule);
+    let switched = place(n, l, kept, schedule);
     let all = total(n, demand);
     let carried = total(n, kept);
-    let switched = reconfigurations(n, l, schedule);
     Answer::Planned {
         kept: carried,
         refused: all - carried,

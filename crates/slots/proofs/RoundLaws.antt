@@ -1,52 +1,71 @@
 -- The rounds: what holds before each, that at level 1 there always is a pairing, and how they start and end. The laws assume nothing.
-use mathlib.Core.Path.{_≡_, refl, sym, _∙_}
-use mathlib.Core.Logic.{inr}
+use mathlib.Core.Path.{_≡_, refl, sym, ap, _∙_, subst}
+use mathlib.Core.Logic.{_⊎_, inr}
 use mathlib.Core.Bool.{Bool, false}
-use mathlib.Core.List.{List}
+use mathlib.Core.List.{List, _++_}
 use Prim.Native.Nat.{ℕ, _+_, _-_, _*_, _≤_, _<_}
 use native.Mathlib.Omega.{arith}
-use lib.ListN.{length, getD, drop}
-use Rattle.sums.specs.Sums.{hit}
+use lib.ListN.{length, getD, take, drop, take-append-drop}
+use lib.Seq.{length-take-le}
+use Rattle.sums.specs.Sums.{sumTo, hit}
 use Rattle.sums.specs.Tables.{cell}
-use Rattle.sums.proofs.Sums.{sum-none, hit-other}
-use Rattle.sums.proofs.Cases.{by-eq}
-use Rattle.star.specs.Schedules.{count, Carries}
-use Rattle.star.proofs.LineLaws.{row-sum, column-sum, cell-in-row, capacity}
-use Rattle.arrays.proofs.Stores.{square-kept, frame-kept, beyond-more}
+use Rattle.sums.proofs.Sums.{sum-ext, sum-none, sum-run, hit-other}
+use Rattle.sums.proofs.Cases.{by-eq, by-lt}
+use Rattle.sums.proofs.Tables.{take-cell}
+use Rattle.star.specs.Schedules.{count, Carries, reconfigurations}
+use Rattle.star.proofs.LineLaws.{row-sum, column-sum, line-ext, cell-in-row, capacity}
+use Rattle.arrays.specs.Arrays.{Frame}
+use Rattle.arrays.proofs.Stores.{square-kept, frame-kept, frame-less, beyond-more}
+use Rattle.cells.specs.Cells.{paddedIn, keptIn}
+use Rattle.cells.proofs.CellLaws.{nothing-left}
 use Rattle.pairs.specs.Pairs.{allowed, Paired, Full, Rooms, CanMatch, Matched}
 use Rattle.pairs.proofs.Counts.{never-stuck, taken-all}
-use Rattle.idle.specs.Idle.{Small, Copied, Padded}
-use Rattle.holds.specs.Holds.{Placed, CanHold, Holds, Wrote}
-use Rattle.holds.proofs.Placing.{count-more, free-more}
+use Rattle.changes.specs.Changes.{changeAt}
+use Rattle.changes.proofs.ChangeLaws.{changes-more, changes-most, change-most}
+use Rattle.idle.specs.Idle.{Small, Padded}
+use Rattle.holds.specs.Holds.{Placed, CanHear, Next, Wrote}
+use Rattle.holds.proofs.Placing.{placed-more}
 use Rattle.slots.specs.Levels.{Level}
-use Rattle.slots.specs.Rounds.{CanSettle, Rounded}
-use Rattle.slots.specs.Places.{CanPlace, Places}
+use Rattle.slots.specs.Rounds.{Extended, CanSettle, Rounded}
+use Rattle.slots.specs.Places.{CanPlace, Rested, Places}
+
+-- ---- a setting in the slots that come next
+pub extended : {n : ℕ} {s u setting : List ℕ} {from to more : ℕ} → from < to → more ≡ changeAt n s from setting → Wrote n s u setting from to → Extended n s u setting from to more
+extended {n} {s} {u} {setting} {from} {to} lt e w =
+    let far : from + (to - from) ≡ to = omega arith in
+    let added : reconfigurations n (from + (to - from)) u ≡ reconfigurations n from s + changeAt n s from setting =
+    changes-more n s u setting from (to - from) (omega arith) (w .old) (λ k j lo hi hj. w .new k j lo (omega arith) hj) in
+    record {
+      wrote = w;
+      changes = omega (arith, rw far at added);
+      most = omega (arith, change-most n s from setting);
+    }
 
 pub rooms-kept : {n : ℕ} {may may' source destination : List ℕ} → length may' ≡ length may → Rooms n may source destination → Rooms n may' source destination
 rooms-kept e h = record { nodes = h .nodes; mays = omega (arith, h .mays); sources = h .sources; destinations = h .destinations }
 
 -- before a round
-pub record Rounding (n r : ℕ) (padded0 due0 may0 source0 destination0 schedule0 padded due may source destination schedule : List ℕ) (level t : ℕ) : Type 0 where
-  pub padded-len : length padded ≡ length padded0
-  pub due-len : length due ≡ length due0
+pub record Rounding (n r : ℕ) (table0 may0 source0 destination0 bytes0 schedule0 table may source destination bytes schedule : List ℕ) (level held changes t : ℕ) : Type 0 where
+  pub table-len : length table ≡ length table0
   pub may-len : length may ≡ length may0
   pub source-len : length source ≡ length source0
   pub destination-len : length destination ≡ length destination0
+  pub bytes-len : length bytes ≡ length bytes0
   pub schedule-len : length schedule ≡ length schedule0
-  pub placed : (kept : List ℕ) → Placed n r 0 kept padded0 due0 schedule0 → Placed n r t kept padded due schedule
-  pub right : Level n padded may level
+  pub placed : Placed n r t table schedule
+  pub kept : keptIn table ≡ keptIn table0
+  pub changed : changes ≡ reconfigurations n t schedule
+  pub right : Level n (paddedIn table) may level
   pub paired : Paired n may source destination
   pub within : t ≤ r
+  pub few : held ≤ t
   pub some : 1 ≤ level
   pub most : level < 65536
   pub beyond : drop (r * n) schedule ≡ drop (r * n) schedule0
 
-module _ {n r : ℕ} {padded0 due0 may0 source0 destination0 schedule0 padded due may source destination schedule : List ℕ} {level t : ℕ}
-    (c : CanSettle n r padded0 due0 schedule0) (rooms : Rooms n may0 source0 destination0)
-    (g : Rounding n r padded0 due0 may0 source0 destination0 schedule0 padded due may source destination schedule level t) where
-  now : Placed n r t (c .kept) padded due schedule
-  now = g .placed (c .kept) (c .placed)
-
+module _ {n r : ℕ} {table0 may0 source0 destination0 bytes0 schedule0 table may source destination bytes schedule : List ℕ} {level held changes t : ℕ}
+    (c : CanSettle n r table0 schedule0) (rooms : Rooms n may0 source0 destination0)
+    (g : Rounding n r table0 may0 source0 destination0 bytes0 schedule0 table may source destination bytes schedule level held changes t) where
   pub round-rooms : {source' destination' : List ℕ} → length source' ≡ length source → length destination' ≡ length destination → Rooms n may source' destination'
   round-rooms es ed = record {
     nodes = rooms .nodes;
@@ -58,86 +77,155 @@ module _ {n r : ℕ} {padded0 due0 may0 source0 destination0 schedule0 padded du
   pub round-match : CanMatch n may source destination
   round-match = record { rooms = round-rooms refl refl; paired = g .paired }
 
+  pub round-frame : {to : ℕ} → to ≤ r → Frame n to schedule
+  round-frame le = frame-less (frame-kept schedule0 schedule (g .schedule-len) (c .frame)) le
+
   -- at level 1 all can be paired, so a level at which not all can be is at least 2
   pub level-two : {source' destination' : List ℕ} {b : Bool} → t < r → Matched n may source' destination' b → b ≡ false → 2 ≤ level
   unfolding allowed
   level-two lt m e =
       by-eq level 1
-      (λ one. absurd (never-stuck padded (r - t) (m .paired .source-most) (omega arith)
-      (λ i hi. omega (arith, now .lines i (omega arith), row-sum n padded i hi))
-      (λ j hj. omega (arith, now .lines (n + j) (omega arith), column-sum n padded j))
+      (λ one. absurd (never-stuck (paddedIn table) (r - t) (m .paired .source-most) (omega arith)
+      (λ i hi. omega (arith, g .placed .lines i (omega arith), row-sum n (paddedIn table) i hi))
+      (λ j hj. omega (arith, g .placed .lines (n + j) (omega arith), column-sum n (paddedIn table) j))
       (λ i j hi hj pos. g .right .all j hj .in' i hi (omega arith))
       (m .none e)))
       (λ ne. omega (arith, g .some))
 
-  module _ {source' destination' : List ℕ} (lt : t < r) (es : length source' ≡ length source) (p : Paired n may source' destination') (f : Full n source') where
-    pub round-hold : CanHold n padded due source' schedule t (r - t)
-    unfolding allowed
-    round-hold =
-        let e : t + (r - t) ≡ r = omega arith in
-        record {
-          table = square-kept padded0 padded (g .padded-len) (c .table);
-          table-due = square-kept due0 due (g .due-len) (c .table-due);
-          frame = rw e (frame-kept schedule0 schedule (g .schedule-len) (c .frame));
-          sources = omega (arith, rooms .sources, g .source-len);
-          full = f .all;
-          once = taken-all p f;
-          gets = λ j hj. omega (arith, g .some, g .right .all j hj .out (getD source' j 0) (f .all j hj) (p .allows j hj (f .all j hj)));
-          below = now .below;
-          some = omega arith;
-        }
+  pub round-hear : {source' destination' : List ℕ} → t < r → n ≤ length bytes0 → length source' ≡ length source → Paired n may source' destination' → Full n source'
+      → CanHear n table source' bytes (r - t)
+  unfolding allowed
+  round-hear {source'} lt outs es p f = record {
+    table-room = square-kept table0 table (g .table-len) (c .table-room);
+    sources = omega (arith, rooms .sources, g .source-len);
+    outs = omega (arith, outs, g .bytes-len);
+    full = f .all;
+    once = taken-all p f;
+    gets = λ j hj. omega (arith, g .some, g .right .all j hj .out (getD source' j 0) (f .all j hj) (p .allows j hj (f .all j hj)));
+    some = omega arith;
+  }
 
-    pub round-beyond : {padded' due' schedule' : List ℕ} {h : ℕ} → Holds n padded due source' schedule padded' due' schedule' t (r - t) h → drop (r * n) schedule' ≡ drop (r * n) schedule0
-    round-beyond {schedule' = schedule'} {h = h} d = beyond-more n (t + h) r schedule' schedule (omega (arith, d .within)) (d .beyond) ∙ g .beyond
+  -- ---- the setting is written
+  module _ {table' source' bytes' schedule' : List ℕ} {h more : ℕ} (d : Next n table table' source' bytes' (r - t) h) (x : Extended n schedule schedule' bytes' t (t + h) more) where
+    pub round-placed : Placed n r (t + h) table' schedule'
+    round-placed = placed-more d (x .wrote) (g .placed)
+
+    pub round-changed : changes + more ≡ reconfigurations n (t + h) schedule'
+    round-changed = omega (arith, g .changed, x .changes)
+
+    pub round-beyond : t < r → drop (r * n) schedule' ≡ drop (r * n) schedule0
+    round-beyond lt = beyond-more n (t + h) r schedule' schedule (omega (arith, d .within)) (x .wrote .beyond) ∙ g .beyond
+
+  pub round-few : changes ≤ t
+  round-few = omega (arith, g .changed, changes-most n t schedule)
 
   -- ---- all is held
-  pub round-end : r ≤ t → Rounded n r padded0 due0 schedule0 schedule
+  pub round-end : r ≤ t → Rounded n r table0 schedule0 table schedule changes
   round-end le =
       let e : t ≡ r = omega (arith, g .within) in
+      let none : (i j : ℕ) → i < n → j < n → cell n (paddedIn table) i j ≡ 0 =
+      λ i j hi hj. omega (arith, cell-in-row n (paddedIn table) i j hi hj, g .placed .lines i (omega arith)) in
       record {
-        carries = λ kept p.
-            let q = g .placed kept p in
-            record {
-              free = rw (sym e) (q .free);
-              exact = λ i j hi hj.
-                  let none : cell n due i j ≡ 0 = omega (arith, q .below i j hi hj, cell-in-row n padded i j hi hj, q .lines i (omega arith)) in
-                  rw (sym e) (omega (arith, q .counts i j hi hj));
-            };
+        carries = record {
+          free = rw (sym e) (g .placed .free);
+          exact = λ i j hi hj. rw (sym e) (omega (arith, g .placed .counts i j hi hj, none i j hi hj, ap (λ (x : List ℕ). cell n x i j) (g .kept)));
+        };
+        changed = rw (sym e) (g .changed);
+        nothing = none;
+        kept = g .kept;
         beyond = g .beyond;
       }
+
+-- ---- the slots after r
+pub rest-none : {n r l : ℕ} (s : List ℕ) → r ≤ l → l ≤ r → Rested n r l s s 0
+rest-none {n} {r} {l} s le ge =
+    let e : l ≡ r = omega arith in
+    record {
+      idle = λ k j lo hi hj. absurd (omega arith);
+      old = λ k j hk hj. refl;
+      changes = rw e (omega arith);
+      most = omega arith;
+      beyond = refl;
+    }
+
+pub rest-some : {n r l : ℕ} {s u idle : List ℕ} {more : ℕ} → ((j : ℕ) → j < n → getD idle j 0 ≡ 255) → Extended n s u idle r l more → Rested n r l s u more
+rest-some says x = record {
+  idle = λ k j lo hi hj. x .wrote .new k j lo hi hj ∙ says j hj;
+  old = x .wrote .old;
+  changes = x .changes;
+  most = x .most;
+  beyond = x .wrote .beyond;
+}
+
+rest-count : {n r l : ℕ} {s u : List ℕ} {more : ℕ} → n ≤ 64 → r ≤ l → Rested n r l s u more → (i j : ℕ) → i < n → j < n → count n l u i j ≡ count n r s i j
+unfolding count
+rest-count {n} {r} {l} {s} {u} small le w i j hi hj =
+    let far : r + (l - r) ≡ l = omega arith in
+    let run : sumTo (r + (l - r)) (λ k. hit (cell n u k j) i) ≡ sumTo r (λ k. hit (cell n u k j) i) + (l - r) * 0 =
+    sum-run r (l - r) 0 (λ k. hit (cell n u k j) i) (λ k lo up. hit-other (λ q. omega (arith, w .idle k j lo (omega arith) hj))) in
+    omega (
+      arith,
+      rw far at run,
+      sum-ext r (λ k. hit (cell n u k j) i) (λ k. hit (cell n s k j) i) (λ k hk. ap (λ (x : ℕ). hit x i) (w .old k j hk hj)),
+    )
 
 -- ---- the start and the end of placing
 module _ {n l : ℕ} {kept schedule : List ℕ} (c : CanPlace n l kept schedule) where
   pub place-small : Small n kept
   place-small = record { lines = λ ℓ hl. omega (arith, c .admissible .lines ℓ hl, capacity n l ℓ hl, c .frame .slots) }
 
-  module _ {padded due : List ℕ} {r : ℕ} (p : Padded n kept padded r) (k : Copied n kept due) where
+  module _ {table : List ℕ} {r : ℕ} (p : Padded n kept table r) where
     pub place-most : r ≤ l
     place-most = p .least l (λ ℓ hl. omega (arith, c .admissible .lines ℓ hl, capacity n l ℓ hl))
 
-    pub place-none : Placed n r 0 kept padded due schedule
+    pub place-none : Placed n r 0 table schedule
     unfolding count
     place-none = record {
       lines = λ ℓ hl. omega (arith, p .lines ℓ hl);
-      below = λ i j hi hj. omega (arith, p .cells i j hi hj, k .cells i j hi hj);
-      counts = λ i j hi hj. omega (arith, sum-none (λ q. hit (cell n schedule q j) i), k .cells i j hi hj);
+      counts = λ i j hi hj. omega (arith, sum-none (λ q. hit (cell n schedule q j) i), p .cells i j hi hj, p .keeps i j hi hj);
       free = record { heard = λ q j lt. absurd (omega arith); once = λ q j u lt. absurd (omega arith) };
     }
 
+    pub place-settle : length table ≡ length kept → CanSettle n r table schedule
+    place-settle e = record { table-room = square-kept kept table e (c .square); frame = frame-less (c .frame) place-most; placed = place-none }
+
     -- the slots after r are idle
-    pub place-end : {written final idle : List ℕ} → Rounded n r padded due schedule written → ((j : ℕ) → j < n → getD idle j 0 ≡ 255) → Wrote n written final idle r l
-        → Places n l kept schedule final
-    place-end {written} {final} {idle} g says w =
-        let far : r + (l - r) ≡ l = omega (arith, place-most) in
-        let w' : Wrote n written final idle r (r + (l - r)) = rw far w in
-        let done : Carries n r written kept = g .carries kept place-none in
+    pub place-end : {table' written final : List ℕ} {changes more : ℕ} → length kept ≡ n * n → length table' ≡ length kept → Rounded n r table schedule table' written changes
+        → Rested n r l written final more → Places n l kept schedule table' final (changes + more)
+    place-end {table'} {written} {final} exact len g w =
         record {
           carries = record {
-            free = rw far at (free-more (l - r) w' (λ j hj. inr (says j hj)) (λ j v hj hv lt e. absurd (omega (arith, says j hj, c .frame .nodes))) (done .free));
-            exact = λ i j hi hj.
-                let z : hit (getD idle j 0) i ≡ 0 = hit-other (λ q. omega (arith, says j hj, c .frame .nodes)) in
-                let more : count n (r + (l - r)) final i j ≡ count n r written i j + (l - r) * hit (getD idle j 0) i = count-more (l - r) w' i j hj in
-                omega (arith, rw (far, z) at more, done .exact i j hi hj);
+            free = record {
+              heard = λ k j hk hj. by-lt k r
+                  (λ lo. subst (λ (x : ℕ). (x < n) ⊎ (x ≡ 255)) (sym (w .old k j lo hj)) (g .carries .free .heard k j lo hj))
+                  (λ hi. inr (w .idle k j hi hk hj));
+              once = λ k j v hk hj hv lt e. by-lt k r
+                  (λ lo. g .carries .free .once k j v lo hj hv (omega (arith, w .old k j lo hj)) (sym (w .old k j lo hj) ∙ e ∙ w .old k v lo hv))
+                  (λ hi. absurd (omega (arith, w .idle k j hi hk hj, c .frame .nodes)));
+            };
+            exact = λ i j hi hj. omega (arith, rest-count (c .frame .nodes) place-most w i j hi hj, g .carries .exact i j hi hj, p .keeps i j hi hj);
           };
+          changed = omega (arith, g .changed, w .changes);
+          same = nothing-left (len ∙ exact) exact (λ i j hi hj. ap (λ (x : List ℕ). cell n x i j) (g .kept) ∙ p .keeps i j hi hj) (g .nothing);
           beyond = w .beyond ∙ beyond-more n r l written schedule place-most (g .beyond);
         }
+
+-- ---- the first n * n cells of a longer table
+front-cell : (n : ℕ) (kept : List ℕ) (i j : ℕ) → i < n → j < n → cell n (take (n * n) kept) i j ≡ cell n kept i j
+front-cell n kept i j hi hj = sym (take-cell n kept (take (n * n) kept) refl i j hi hj)
+
+pub front-can : {n l : ℕ} {kept schedule : List ℕ} → CanPlace n l kept schedule → CanPlace n l (take (n * n) kept) schedule
+front-can {n} {l} {kept} c = record {
+  square = record { nodes = c .square .nodes; cells = omega (arith, length-take-le (n * n) kept (c .square .cells)) };
+  frame = c .frame;
+  admissible = record { lines = λ ℓ hl. omega (arith, line-ext n (take (n * n) kept) kept (front-cell n kept) ℓ hl, c .admissible .lines ℓ hl) };
+}
+
+pub front-places : {n l : ℕ} {kept schedule front schedule' : List ℕ} {changes : ℕ} → Places n l (take (n * n) kept) schedule front schedule' changes
+    → Places n l kept schedule (front ++ drop (n * n) kept) schedule' changes
+front-places {n} {l} {kept} p = record {
+  carries = record { free = p .carries .free; exact = λ i j hi hj. p .carries .exact i j hi hj ∙ front-cell n kept i j hi hj };
+  changed = p .changed;
+  same = ap (λ (x : List ℕ). x ++ drop (n * n) kept) (p .same) ∙ take-append-drop (n * n) kept;
+  beyond = p .beyond;
+}

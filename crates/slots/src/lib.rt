@@ -1,9 +1,11 @@
 // Placing a kept matrix into the frame with few reconfigurations. The matrix is padded with idle slots until every
 // line has the sum R, the largest line sum. While slots are left, all destinations are paired with sources on pairs that still get at
-// least `level` slots, and the pairing is held for as many slots as each of its pairs allows; where no such pairing is, the level falls
-// by a quarter, and at level 1 there always is one. Slots fill in order, so none is ever searched for; those after R are idle.
+// least `level` slots, and the pairing is held for as many slots as each of its pairs allows; where no such pairing is, the level falls,
+// and at level 1 there always is one. Slots fill in order, so none is ever searched for; those after R are idle.
 //
-// Working memory: two tables of 4,096 16-bit numbers (16,384 bytes) and 1,088 bytes of lists, on the stack.
+// Working memory: the lent kept table, which is at the end as it was, and lists on the stack: 704 bytes while slots are placed, 64 more
+// while nodes are paired, and before that 256 while lines are padded.
 mod levels;
 pub mod placing;
 mod rounds;
+mod writing;

@@ -1,35 +1,42 @@
 // Placing a kept matrix.
 use crate::rounds;
-ghost use Rattle.star.specs.Tables.{Square};
-ghost use Rattle.slots.specs.Places.{CanPlace, Places};
+use crate::writing;
+ghost use mathlib.Core.Path.{_≡_};
+ghost use Prim.Native.Nat.{_*_, _≤_};
+ghost use lib.ListN.{length};
+ghost use Rattle.arrays.specs.Arrays.{Frame};
+ghost use Rattle.slots.specs.Places.{CanPlace, Places, Rested};
 
-// Places the kept matrix, with two tables to work in.
-fn place_with(
-    n: usize,
-    l: usize,
-    kept: &[u32],
-    padded: &mut [u16],
-    due: &mut [u16],
-    schedule: &mut [u8],
-)
-    requires { ⌜ CanPlace n l (now kept) (now schedule) ⌝ }
-    requires { ⌜ (Square n (now padded)) × (Square n (now due)) ⌝ }
-    ensures { λ _. ⌜ Places n l (now (kept .entry)) (now (schedule .entry)) (now (schedule .exit)) ⌝ }
+// The slots from r on are idle; gives the reconfigurations that this adds.
+fn rest(n: usize, r: usize, l: usize, schedule: &mut [u8]) -> u32
+    requires { ⌜ (Frame n l (now schedule)) × (r ≤ l) ⌝ }
+    ensures { λ more. ⌜ Rested n r l (now (schedule .entry)) (now (schedule .exit)) more ⌝ }
 {
+    if r >= l {
+        return 0;
+    }
     let idle = [255u8; 64];
-    idle::copy(n, kept, due);
-    let r = idle::pad(n, kept, padded) as usize;
-    rounds::settle(n, r, padded, due, schedule);
-    holds::writing::write(n, schedule, &idle, r, l);
+    writing::extend(n, schedule, &idle, r, l)
+}
+
+// Places the kept matrix, in a table that has no further cells.
+fn place_exactly(n: usize, l: usize, kept: &mut [u32], schedule: &mut [u8]) -> u32
+    requires { ⌜ CanPlace n l (now kept) (now schedule) ⌝ }
+    requires { ⌜ length (now kept) ≡ n * n ⌝ }
+    ensures { λ changes. ⌜ Places n l (now (kept .entry)) (now (schedule .entry)) (now (kept .exit)) (now (schedule .exit)) changes ⌝ }
+{
+    let r = idle::pad(n, kept) as usize;
+    let changes = rounds::settle(n, r, kept, schedule);
+    changes + rest(n, r, l, schedule)
 }
 
 // Writes the l slots: the schedule names source i for destination j exactly kept(i,j) times, without conflict, and holds 255 elsewhere.
-// Bytes beyond the l slots stay as they are.
-pub fn place(nodes: usize, slots: usize, kept: &[u32], schedule: &mut [u8])
+// Bytes beyond the l slots stay as they are. While slots are placed the kept table is worked in; at the end it is as it was. Gives the
+// reconfigurations.
+pub fn place(nodes: usize, slots: usize, kept: &mut [u32], schedule: &mut [u8]) -> u32
     requires { ⌜ CanPlace nodes slots (now kept) (now schedule) ⌝ }
-    ensures { λ _. ⌜ Places nodes slots (now (kept .entry)) (now (schedule .entry)) (now (schedule .exit)) ⌝ }
+    ensures { λ changes. ⌜ Places nodes slots (now (kept .entry)) (now (schedule .entry)) (now (kept .exit)) (now (schedule .exit)) changes ⌝ }
 {
-    let mut padded = [0u16; 4096];
-    let mut due = [0u16; 4096];
-    place_with(nodes, slots, kept, &mut padded, &mut due, schedule);
+    let cells = nodes * nodes;
+    place_exactly(nodes, slots, &mut kept[..cells], schedule)
 }

@@ -196,13 +196,13 @@ pub const KEPT: [Column; 4] = [
 /// From the kept matrix to a schedule; and, of the least rule's, the count of reconfigurations.
 pub const PLACEMENT: [Column; 5] = [
     Column::new(Program::Library, "least, library", |w| {
-        lab::place(w.n, w.slots, &w.least.kept, &mut w.least.schedule);
+        lab::place(w.n, w.slots, &mut w.least.kept, &mut w.least.schedule);
     }),
     Column::new(Program::Second, "least, second", |w| {
         w.second.schedule = schedule::place(&w.second.least, w.slots);
     }),
     Column::new(Program::Library, "fair, library", |w| {
-        lab::place(w.n, w.slots, &w.fair.kept, &mut w.fair.schedule);
+        lab::place(w.n, w.slots, &mut w.fair.kept, &mut w.fair.schedule);
     }),
     Column::new(Program::Second, "fair, second", |w| {
         w.second.schedule = schedule::place(&w.second.fair, w.slots);

@@ -11,7 +11,9 @@ use second::schedule;
 fn placed(random: &mut Random, n: usize, slots: usize, kept: &[u32]) -> usize {
     let before = Lent::new(&random.bytes(slots * n + 5), 7);
     let mut bytes = before.clone();
-    lab::place(n, slots, kept, bytes.cells());
+    let mut table = kept.to_vec();
+    let answered = lab::place(n, slots, &mut table, bytes.cells()) as usize;
+    assert_eq!(table, kept, "L {slots}");
     assert!(bytes.changed_only(slots * n, &before), "L {slots} {kept:?}");
 
     let (kept, bytes) = (Matrix::read(n, kept), &bytes.cells()[..slots * n]);
@@ -19,6 +21,7 @@ fn placed(random: &mut Random, n: usize, slots: usize, kept: &[u32]) -> usize {
     assert!(conflict_free, "L {slots} {kept:?}");
     assert_eq!(schedule::counts(n, bytes), kept, "L {slots}");
     let counted = counted(n, slots, bytes);
+    assert_eq!(answered, counted, "L {slots} {kept:?}");
     let fewest = schedule::fewest_reconfigurations(&kept, slots);
     assert!(fewest <= counted, "L {slots} {kept:?}");
     counted

@@ -108,8 +108,9 @@ pub unsafe fn keep(
     }
 }
 
-/// A schedule of L slots that gives each pair exactly its kept slots and holds 255 elsewhere.
-pub fn place(n: usize, slots: usize, kept: &[u32], schedule: &mut [u8]) {
+/// A schedule of L slots that gives each pair exactly its kept slots and holds 255 elsewhere, and
+/// its reconfigurations. `kept` is worked in, and at the end as it was.
+pub fn place(n: usize, slots: usize, kept: &mut [u32], schedule: &mut [u8]) -> u32 {
     ask_cells(n, kept);
     ask_frame(n, slots, schedule);
     ask_admissible(n, slots, kept);
@@ -117,11 +118,11 @@ pub fn place(n: usize, slots: usize, kept: &[u32], schedule: &mut [u8]) {
         raw::lab_place(
             n,
             slots,
-            kept.as_ptr(),
+            kept.as_mut_ptr(),
             kept.len(),
             schedule.as_mut_ptr(),
             schedule.len(),
-        );
+        )
     }
 }
 
@@ -227,7 +228,7 @@ mod tests {
     }
 
     fn place(t: &mut Tables) {
-        super::place(t.n, t.slots, &t.kept, &mut t.schedule);
+        super::place(t.n, t.slots, &mut t.kept, &mut t.schedule);
     }
 
     fn reconfigurations(t: &mut Tables) {

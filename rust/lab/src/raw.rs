@@ -50,11 +50,11 @@ unsafe extern "C" {
     pub fn lab_place(
         n: usize,
         l: usize,
-        kept: *const u32,
+        kept: *mut u32,
         kept_length: usize,
         schedule: *mut u8,
         schedule_length: usize,
-    );
+    ) -> u32;
 
     pub fn lab_reconfigurations(
         n: usize,

@@ -6,10 +6,10 @@ use Rattle.idle.proofs.pad_all.Statement.{statement}
 use Rattle.idle.proofs.pad_all.Tie as tie
 
 abbrev Inv-loop : tie.InvT-loop
-Inv-loop n padded₀ lack₀ i₀ padded lack i = AllPadding n padded₀ lack₀ padded lack i
+Inv-loop n table₀ lack₀ i₀ table lack i = AllPadding n table₀ lack₀ table lack i
 
 abbrev μ-loop : tie.MeasureT-loop
-μ-loop n padded₀ lack₀ i₀ padded lack i = n - i
+μ-loop n table₀ lack₀ i₀ table lack i = n - i
 
 loop-holds : tie.Need-loop-holds Inv-loop μ-loop
 loop-holds c = all-start _ _ _

@@ -6,10 +6,10 @@ use Rattle.idle.proofs.pad_row.Statement.{statement}
 use Rattle.idle.proofs.pad_row.Tie as tie
 
 abbrev Inv-loop : tie.InvT-loop
-Inv-loop n padded₀ lack₀ i j₀ padded lack j = RowPadding n padded₀ lack₀ padded lack i j
+Inv-loop n table₀ lack₀ i j₀ table lack j = RowPadding n table₀ lack₀ table lack i j
 
 abbrev μ-loop : tie.MeasureT-loop
-μ-loop n padded₀ lack₀ i j₀ padded lack j = n - j
+μ-loop n table₀ lack₀ i j₀ table lack j = n - j
 
 loop-holds : tie.Need-loop-holds Inv-loop μ-loop
 loop-holds c = row-start _ _ _ _

@@ -1,11 +1,11 @@
 -- `planner::plans::write` meets its contract: what is kept, what carries it and the three numbers make a plan. Assumes nothing.
 use Prim.Native.Nat.{_-_}
 use native.Mathlib.Omega.{arith}
-use mathlib.Core.Path.{refl, ap₂}
+use mathlib.Core.Path.{refl, ap, ap₂, _∙_}
 use borrow.Author.Needs.{needs}
+use Rattle.star.proofs.LineLaws.{demands-below}
 use Rattle.star.specs.Lines.{total}
 use Rattle.planner.proofs.PlanLaws.{keep-room, fits-frame, total-below, written-plan}
-use Rattle.star.proofs.LineLaws.{demands-below}
 use Rattle.planner.proofs.plans.write.Statement.{statement}
 use Rattle.planner.proofs.plans.write.Tie as tie
 
@@ -13,8 +13,7 @@ keep-requires : tie.Need-keep-requires
 keep-requires c κs = keep-room (c .before .before .before .before .before .before .before .pre)
 
 place-requires : tie.Need-place-requires
-place-requires c κs =
-    let room = c .before .before .before .before .before .before .before .before .before .before .before .before .before .before .pre in
+place-requires c κs = let room = c .before .before .before .before .before .before .before .before .before .before .before .before .before .before .pre in
     record {
       square = record { nodes = room .nodes; cells = omega (arith, c .before .before .before .before .before .before .keep .kept .1 .1 .1 .1 .0, room .kept-room) };
       frame = record { nodes = room .nodes; slots = room .slots; cells = room .schedule-room };
@@ -25,13 +24,10 @@ total-requires : tie.Need-total-requires
 total-requires c κs = search needs
 
 total-requires-2 : tie.Need-total-requires-2
-total-requires-2 c κs = (record { nodes = c .before .before .before .before .before .before .before .before .before .before .before .before .before .before .before .before .before .before .before .pre .nodes; cells = omega (arith, c .before .before .before .before .before .before .before .before .before .before .before .keep .kept .1 .1 .1 .1 .0, c .before .before .before .before .before .before .before .before .before .before .before .before .before .before .before .before .before .before .before .pre .kept-room) }, demands-below _ _ _ (c .before .before .before .before .before .before .before .before .before .before .before .before .before .before .before .before .before .before .before .pre .within) (c .before .before .before .before .before .before .before .before .before .before .before .keep .ensures .below))
+total-requires-2 c κs = rw (c .before .before .before .before .before .before .place .ensures .same) (record { nodes = c .before .before .before .before .before .before .before .before .before .before .before .before .before .before .before .before .before .before .before .before .before .pre .nodes; cells = omega (arith, c .before .before .before .before .before .before .before .before .before .before .before .before .before .keep .kept .1 .1 .1 .1 .0, c .before .before .before .before .before .before .before .before .before .before .before .before .before .before .before .before .before .before .before .before .before .pre .kept-room) }, demands-below _ _ _ (c .before .before .before .before .before .before .before .before .before .before .before .before .before .before .before .before .before .before .before .before .before .pre .within) (c .before .before .before .before .before .before .before .before .before .before .before .before .before .keep .ensures .below))
 
-reconfigurations-requires : tie.Need-reconfigurations-requires
-reconfigurations-requires c κs = search needs
-
-sub-t25 : tie.Need-sub-t25
-sub-t25 c = omega (arith, c .before .before .before .before .total .ensures, c .before .before .total2 .ensures, total-below _ _ _ (c .before .before .before .before .before .before .before .before .before .before .before .before .before .before .keep .ensures .below))
+sub-t23 : tie.Need-sub-t23
+sub-t23 c = omega (arith, c .before .before .total .ensures, c .total2 .ensures ∙ ap (total (c .before .before .before .before .before .before .before .before .before .before .before .before .before .before .before .before .before .before .before .before .before .before .args .n)) (c .before .before .before .before .before .before .before .place .ensures .same), total-below _ _ _ (c .before .before .before .before .before .before .before .before .before .before .before .before .before .before .keep .ensures .below))
 
 same-length : tie.Need-same-length
 same-length c = search needs
@@ -43,7 +39,7 @@ same-length-3 : tie.Need-same-length-3
 same-length-3 c = search needs
 
 returns : tie.Need-returns
-returns c = (written-plan (c .before .before .before .before .before .before .before .before .before .before .before .before .before .before .before .before .before .before .before .before .before .before .pre) _ _ _ (c .before .before .before .before .before .before .before .before .before .before .before .before .before .before .keep .ensures) (c .before .before .before .before .before .before .before .place .ensures .carries) (c .before .before .before .before .before .before .before .place .ensures .beyond) (c .before .before .before .before .before .before .before .before .before .before .before .before .before .before .keep .kept .1 .1 .1 .1 .0) (c .before .before .before .before .before .before .before .before .before .before .before .before .before .before .keep .kept .1 .1 .1 .1 .1 .0) (c .before .before .before .before .before .before .before .place .kept .1 .1 .1 .0) (c .before .before .total2 .ensures) (ap₂ _-_ (c .before .before .before .before .total .ensures) (c .before .before .total2 .ensures)) (c .reconfigurations .ensures), refl)
+returns c = rw (c .before .before .before .before .before .before .before .place .ensures .same) (written-plan (c .before .before .before .before .before .before .before .before .before .before .before .before .before .before .before .before .before .before .before .before .before .before .pre) _ _ _ (c .before .before .before .before .before .before .before .before .before .before .before .before .before .before .keep .ensures) (c .before .before .before .before .before .before .before .place .ensures .carries) (c .before .before .before .before .before .before .before .place .ensures .beyond) (c .before .before .before .before .before .before .before .before .before .before .before .before .before .before .keep .kept .1 .1 .1 .1 .0) (c .before .before .before .before .before .before .before .before .before .before .before .before .before .before .keep .kept .1 .1 .1 .1 .1 .0) (c .before .before .before .before .before .before .before .place .kept .1 .1 .1 .0) (c .total2 .ensures ∙ ap (total (c .before .before .before .before .before .before .before .before .before .before .before .before .before .before .before .before .before .before .before .before .before .before .args .n)) (c .before .before .before .before .before .before .before .place .ensures .same)) (ap₂ _-_ (c .before .before .total .ensures) (c .total2 .ensures ∙ ap (total (c .before .before .before .before .before .before .before .before .before .before .before .before .before .before .before .before .before .before .before .before .before .before .args .n)) (c .before .before .before .before .before .before .before .place .ensures .same))) (c .before .before .before .before .before .before .before .place .ensures .changed), refl)
 
 pub write-spec : {M : Type 1} → statement M
 write-spec =
@@ -53,8 +49,7 @@ write-spec =
     place-requires
     total-requires
     total-requires-2
-    reconfigurations-requires
-    sub-t25
+    sub-t23
     same-length
     same-length-2
     same-length-3

@@ -5,16 +5,16 @@ use Rattle.slots.proofs.levels.row_most.Statement.{statement}
 use Rattle.slots.proofs.levels.row_most.Tie as tie
 
 abbrev Inv-loop : tie.InvT-loop
-Inv-loop n padded i most₀ j₀ most j = (j ≤ n) × (most < 65536)
+Inv-loop n table i most₀ j₀ most j = (j ≤ n) × (most < 65536)
 
 abbrev μ-loop : tie.MeasureT-loop
-μ-loop n padded i most₀ j₀ most j = n - j
+μ-loop n table i most₀ j₀ most j = n - j
 
 loop-holds : tie.Need-loop-holds Inv-loop μ-loop
 loop-holds c = omega arith
 
-get-requires : tie.Need-get-requires Inv-loop μ-loop
-get-requires c κs = (c .before .before .before .pre .0, (c .before .before .before .pre .1, c .loop-test .taken))
+padded-requires : tie.Need-padded-requires Inv-loop μ-loop
+padded-requires c κs = (c .before .before .before .pre .0, (c .before .before .before .pre .1, c .loop-test .taken))
 
 add-j : tie.Need-add-j Inv-loop μ-loop
 add-j c = omega (arith, c .before .before .before .before .pre .0 .nodes)
@@ -29,7 +29,7 @@ loop-less-2 : tie.Need-loop-less-2 Inv-loop μ-loop
 loop-less-2 c = omega arith
 
 loop-again-2 : tie.Need-loop-again-2 Inv-loop μ-loop
-loop-again-2 c = omega (arith, c .before .get .ensures .1)
+loop-again-2 c = omega (arith, c .before .padded .ensures .1)
 
 returns : tie.Need-returns Inv-loop μ-loop
 returns c = omega arith
@@ -41,7 +41,7 @@ row-most-spec =
     Inv-loop
     μ-loop
     loop-holds
-    get-requires
+    padded-requires
     add-j
     loop-less
     loop-again

@@ -5,10 +5,10 @@ use Rattle.slots.proofs.levels.start.Statement.{statement}
 use Rattle.slots.proofs.levels.start.Tie as tie
 
 abbrev Inv-loop : tie.InvT-loop
-Inv-loop n padded level₀ i₀ level i = (i ≤ n) × (level < 65536)
+Inv-loop n table level₀ i₀ level i = (i ≤ n) × (level < 65536)
 
 abbrev μ-loop : tie.MeasureT-loop
-μ-loop n padded level₀ i₀ level i = n - i
+μ-loop n table level₀ i₀ level i = n - i
 
 loop-holds : tie.Need-loop-holds Inv-loop μ-loop
 loop-holds c = omega arith

@@ -1,31 +1,40 @@
--- `slots::placing::place` meets its contract: the tables have a cell for each pair of 64 nodes. Assumes nothing.
-use native.Mathlib.Omega.{arith}
+-- `slots::placing::place` meets its contract: the first n * n cells are lent, so that the others stay as they are. Assumes nothing.
+use mathlib.Core.Path.{sym}
+use lib.Seq.{length-take-le}
 use borrow.Author.Needs.{needs}
-use Rattle.sums.proofs.Tables.{mul-small}
+use Rattle.slots.proofs.RoundLaws.{front-can, front-places}
 use Rattle.slots.proofs.placing.place.Statement.{statement}
 use Rattle.slots.proofs.placing.place.Tie as tie
 
-slice-aggregate-place-with : tie.Need-slice-aggregate-place-with
-slice-aggregate-place-with c = search needs
+mul-cells : tie.Need-mul-cells
+mul-cells c = search needs
 
-slice-aggregate-place-with-2 : tie.Need-slice-aggregate-place-with-2
-slice-aggregate-place-with-2 c = search needs
+slice-relend-prefix-place-exactly : tie.Need-slice-relend-prefix-place-exactly
+slice-relend-prefix-place-exactly c = search needs
 
-place-with-requires : tie.Need-place-with-requires
-place-with-requires c κs = (c .before .before .before .before .before .pre, (record { nodes = c .before .before .before .before .before .pre .square .nodes; cells = omega (arith, mul-small (c .before .before .before .before .before .args .nodes) (c .before .before .before .before .before .args .nodes) (c .before .before .before .before .before .pre .square .nodes) (c .before .before .before .before .before .pre .square .nodes)) }, record { nodes = c .before .before .before .before .before .pre .square .nodes; cells = omega (arith, mul-small (c .before .before .before .before .before .args .nodes) (c .before .before .before .before .before .args .nodes) (c .before .before .before .before .before .pre .square .nodes) (c .before .before .before .before .before .pre .square .nodes)) }))
+slice-aggregate-place-exactly : tie.Need-slice-aggregate-place-exactly
+slice-aggregate-place-exactly c = sym (length-take-le _ _ (c .before .before .before .pre .square .cells))
+
+place-exactly-requires : tie.Need-place-exactly-requires
+place-exactly-requires c κs = (front-can (c .before .before .before .before .pre), length-take-le _ _ (c .before .before .before .before .pre .square .cells))
 
 same-length : tie.Need-same-length
 same-length c = search needs
 
+same-length-2 : tie.Need-same-length-2
+same-length-2 c = search needs
+
 returns : tie.Need-returns
-returns c = search needs
+returns c = front-places (c .before .before .before .before .place-exactly .ensures)
 
 pub place-spec : {M : Type 1} → statement M
 place-spec =
     tie.close
     (tie.spec
-    slice-aggregate-place-with
-    slice-aggregate-place-with-2
-    place-with-requires
+    mul-cells
+    slice-relend-prefix-place-exactly
+    slice-aggregate-place-exactly
+    place-exactly-requires
     same-length
+    same-length-2
     returns)

@@ -25,17 +25,17 @@ slice-aggregate-rounds-2 c = search needs
 slice-aggregate-rounds-3 : tie.Need-slice-aggregate-rounds-3
 slice-aggregate-rounds-3 c = search needs
 
+slice-aggregate-rounds-4 : tie.Need-slice-aggregate-rounds-4
+slice-aggregate-rounds-4 c = search needs
+
 rounds-requires : tie.Need-rounds-requires
-rounds-requires c κs = record { settle = c .before .before .before .before .before .before .before .before .before .before .before .before .before .before .before .pre; rooms = record { nodes = c .before .before .before .before .before .before .before .before .before .before .before .before .before .before .before .pre .table .nodes; mays = omega (arith, c .before .before .before .before .before .before .before .before .before .before .before .before .before .before .before .pre .table .nodes); sources = omega (arith, c .before .before .before .before .before .before .before .before .before .before .before .before .before .before .before .pre .table .nodes, c .before .before .before .before .before .before .before .before .before .before .fill .kept .0); destinations = omega (arith, c .before .before .before .before .before .before .before .before .before .before .before .before .before .before .before .pre .table .nodes, c .before .before .before .before .before .before .before .fill2 .kept .0) }; no-source = c .before .before .before .before .before .before .before .before .before .before .fill .ensures; no-destination = c .before .before .before .before .before .before .before .fill2 .ensures }
+rounds-requires c κs = record { settle = c .before .before .before .before .before .before .before .before .before .before .before .before .before .before .pre; rooms = record { nodes = c .before .before .before .before .before .before .before .before .before .before .before .before .before .before .pre .table-room .nodes; mays = omega (arith, c .before .before .before .before .before .before .before .before .before .before .before .before .before .before .pre .table-room .nodes); sources = omega (arith, c .before .before .before .before .before .before .before .before .before .before .before .before .before .before .pre .table-room .nodes, c .before .before .before .before .before .before .before .before .before .before .fill .kept .0); destinations = omega (arith, c .before .before .before .before .before .before .before .before .before .before .before .before .before .before .pre .table-room .nodes, c .before .before .before .before .before .before .before .fill2 .kept .0) }; outs = omega (arith, c .before .before .before .before .before .before .before .before .before .before .before .before .before .before .pre .table-room .nodes); no-source = c .before .before .before .before .before .before .before .before .before .before .fill .ensures; no-destination = c .before .before .before .before .before .before .before .fill2 .ensures }
 
 same-length : tie.Need-same-length
 same-length c = search needs
 
 same-length-2 : tie.Need-same-length-2
 same-length-2 c = search needs
-
-same-length-3 : tie.Need-same-length-3
-same-length-3 c = search needs
 
 returns : tie.Need-returns
 returns c = search needs
@@ -51,8 +51,8 @@ settle-spec =
     slice-aggregate-rounds
     slice-aggregate-rounds-2
     slice-aggregate-rounds-3
+    slice-aggregate-rounds-4
     rounds-requires
     same-length
     same-length-2
-    same-length-3
     returns)

@@ -1,0 +1,2 @@
+-- The laws of the two matrices in one table.
+pub mod CellLaws
