@@ -3,10 +3,9 @@
 use Prim.Native.Nat.{ℕ, _<_, _≤_}
 use mathlib.Core.Path.{_≡_}
 use mathlib.Core.List.{List}
-use mathlib.Core.Bool.{Bool, true, false}
 use lib.ListN.{length, getD}
 use Rattle.sums.specs.Sums.{sumTo, hit}
-use Rattle.nodes.specs.Sets.{member}
+use Rattle.nodes.specs.Sets.{member, First}
 
 -- 1 where destination j may hear source i, and 0 elsewhere
 unfoldable pub allowed : (may : List ℕ) (i j : ℕ) → ℕ
@@ -23,6 +22,16 @@ pub record Paired (n : ℕ) (may source destination : List ℕ) : Type 0 where
   pub back : (j : ℕ) → j < n → getD source j 0 < n → getD destination (getD source j 0) 0 ≡ j
   pub forth : (i : ℕ) → i < n → getD destination i 0 < n → getD source (getD destination i 0) 0 ≡ i
   pub allows : (j : ℕ) → j < n → getD source j 0 < n → allowed may (getD source j 0) j ≡ 1
+
+-- s is the set of the nodes below n that have no partner in x; what else it has is not said
+pub record Unpaired (n : ℕ) (x : List ℕ) (s : ℕ) : Type 0 where
+  pub in' : (k : ℕ) → k < n → n ≤ getD x k 0 → member k s ≡ 1
+  pub out : (k : ℕ) → k < n → member k s ≡ 1 → n ≤ getD x k 0
+
+-- the sources that have no destination, and the destinations that have no source
+pub record FreeNodes (n : ℕ) (source destination : List ℕ) (sources destinations : ℕ) : Type 0 where
+  pub no-destination : Unpaired n destination sources
+  pub no-source : Unpaired n source destinations
 
 -- every destination has a source
 pub record Full (n : ℕ) (source : List ℕ) : Type 0 where
@@ -44,12 +53,14 @@ pub record Rooms (n : ℕ) (may source destination : List ℕ) : Type 0 where
   pub sources : n ≤ length source
   pub destinations : n ≤ length destination
 
-pub record CanMatch (n : ℕ) (may source destination : List ℕ) : Type 0 where
+pub record CanMatch (n : ℕ) (may source destination : List ℕ) (sources destinations : ℕ) : Type 0 where
   pub rooms : Rooms n may source destination
   pub paired : Paired n may source destination
+  pub free : FreeNodes n source destination sources destinations
 
--- all are paired, or not all can be
-pub record Matched (n : ℕ) (may source destination : List ℕ) (r : Bool) : Type 0 where
+-- all are paired where no destination below n is free, and else not all can be
+pub record Matched (n : ℕ) (may source destination : List ℕ) (sources destinations : ℕ) : Type 0 where
   pub paired : Paired n may source destination
-  pub all : r ≡ true → Full n source
-  pub none : r ≡ false → Stuck n may source
+  pub free : FreeNodes n source destination sources destinations
+  pub all : (j : ℕ) → First destinations j → n ≤ j → Full n source
+  pub none : (j : ℕ) → First destinations j → j < n → Stuck n may source

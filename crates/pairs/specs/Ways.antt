@@ -5,12 +5,7 @@ use mathlib.Core.Path.{_≡_}
 use mathlib.Core.List.{List}
 use lib.ListN.{length, getD}
 use Rattle.nodes.specs.Sets.{member, size}
-use Rattle.pairs.specs.Pairs.{allowed, Paired}
-
--- s is the set of the nodes below n that have no partner in x
-pub record Unpaired (n : ℕ) (x : List ℕ) (s : ℕ) : Type 0 where
-  pub in' : (k : ℕ) → k < n → n ≤ getD x k 0 → member k s ≡ 1
-  pub out : (k : ℕ) → k < n → member k s ≡ 1 → n ≤ getD x k 0
+use Rattle.pairs.specs.Pairs.{allowed, Paired, Unpaired, FreeNodes}
 
 -- the nodes that have a partner in y are those that have one in x, and e
 pub record Fewer (n : ℕ) (x y : List ℕ) (e : ℕ) : Type 0 where
@@ -33,10 +28,11 @@ pub record Hears (n : ℕ) (may : List ℕ) (sources j : ℕ) : Type 0 where
   pub among : member who sources ≡ 1
   pub allows : allowed may who j ≡ 1
 
--- pairs, where no destination without a source may hear a source without a destination
-pub record Directed (n : ℕ) (may source destination : List ℕ) : Type 0 where
+-- pairs, where no free destination may hear a free source
+pub record Directed (n : ℕ) (may source destination : List ℕ) (sources destinations : ℕ) : Type 0 where
   pub paired : Paired n may source destination
-  pub dry : (j : ℕ) → j < n → n ≤ getD source j 0 → (i : ℕ) → i < n → n ≤ getD destination i 0 → allowed may i j ≡ 1 → ⊥
+  pub free : FreeNodes n source destination sources destinations
+  pub dry : (j : ℕ) → j < n → member j destinations ≡ 1 → (i : ℕ) → i < n → member i sources ≡ 1 → allowed may i j ≡ 1 → ⊥
 
 -- the sources of the set have a destination
 pub record Settled (n : ℕ) (destination : List ℕ) (new : ℕ) : Type 0 where

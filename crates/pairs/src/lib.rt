@@ -3,4 +3,5 @@
 // for each source its destination, or n for none.
 pub mod all;
 mod flip;
+pub mod free;
 mod search;

@@ -3,21 +3,7 @@
 use arrays::lists;
 ghost use Prim.Native.Nat.{_<_, _≤_};
 ghost use lib.ListN.{length};
-ghost use Rattle.pairs.specs.Ways.{Unpaired, Choice, Settled, Peeked, Spread, CanSearch, Searched};
-
-// The nodes that have no partner in x.
-pub fn free(n: usize, x: &[u8]) -> u64
-    requires { ⌜ (n ≤ 64) × (n ≤ length (now x)) ⌝ }
-    ensures { λ r. ⌜ Unpaired n (now (x .entry)) r ⌝ }
-{
-    let mut s = nodes::none();
-    let mut k = 0;
-    while k < n {
-        s = nodes::with_where(s, k, lists::byte(x, k) >= n);
-        k += 1;
-    }
-    s
-}
+ghost use Rattle.pairs.specs.Ways.{Choice, Settled, Peeked, Spread, CanSearch, Searched};
 
 // One of the sources that destination j may hear; n or above where there is none.
 pub fn choice(n: usize, may: &[u64], sources: u64, j: usize) -> usize
