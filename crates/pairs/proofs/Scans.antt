@@ -1,43 +1,17 @@
 -- The loops over a set: what is known of the nodes passed. Each law adds one node to those passed, and a node that has left the set was passed.
 -- They assume nothing.
 use mathlib.Core.Path.{_≡_, refl, sym, ap, _∙_}
-use mathlib.Core.Bool.{Bool, true, false}
 use mathlib.Core.List.{List}
 use Prim.Native.Nat.{ℕ, _+_, _*_, _≤_, _<_}
 use native.Mathlib.Omega.{arith}
-use borrow.Author.Count.{below-more}
 use lib.ListN.{length, getD, set, length-set}
 use lib.Seq.{getD-set-same, getD-set-other}
 use Rattle.sums.proofs.Cases.{by-eq, by-lt}
-use Rattle.nodes.specs.Sets.{member, size, None, With, WithWhere, Without, Both, First}
+use Rattle.nodes.specs.Sets.{member, size, With, Without, Both, First}
 use Rattle.nodes.proofs.Members.{member-lt}
 use Rattle.nodes.proofs.Sizes.{size-with, size-without}
 use Rattle.pairs.specs.Pairs.{allowed}
 use Rattle.pairs.specs.Ways.{Choice, Hears, From, Spread}
-
--- ---- the nodes with no partner: those below k are looked at
-pub record Freeing (n : ℕ) (x : List ℕ) (s k : ℕ) : Type 0 where
-  pub within : k ≤ n
-  pub in' : (u : ℕ) → u < k → n ≤ getD x u 0 → member u s ≡ 1
-  pub out : (u : ℕ) → member u s ≡ 1 → n ≤ getD x u 0
-
-pub free-start : (n : ℕ) (x : List ℕ) (s : ℕ) → None s → Freeing n x s 0
-free-start n x s e = record { within = omega arith; in' = λ u lt. absurd (omega arith); out = λ u h. absurd (omega (arith, e .out u)) }
-
-pub free-step : {n : ℕ} {x : List ℕ} {s k : ℕ} → Freeing n x s k → k < n → (test : Bool) (t : ℕ) → (test ≡ true → n ≤ getD x k 0) → (test ≡ false → getD x k 0 < n)
-    → WithWhere s k test t → Freeing n x t (k + 1)
-free-step {n} {x} {s} {k} g hk true t yes' no' w = record {
-  within = omega arith;
-  in' = below-more (λ (u : ℕ). n ≤ getD x u 0 → member u t ≡ 1) k (λ u hu h. w .other u (λ e. omega arith) ∙ g .in' u hu h) (λ h. w .added refl);
-  out = λ u h. by-eq u k (λ e. rw e (yes' refl)) (λ ne. g .out u (sym (w .other u ne) ∙ h));
-}
-free-step {n} {x} {s} {k} g hk false t yes' no' w = record {
-  within = omega arith;
-  in' = below-more (λ (u : ℕ). n ≤ getD x u 0 → member u t ≡ 1) k (λ u hu h. w .other u (λ e. omega arith) ∙ g .in' u hu h) (λ h. absurd (omega (arith, no' refl)));
-  out = λ u h. by-eq u k
-      (λ e. g .out u (ap (λ (y : ℕ). member y s) e ∙ sym (w .left refl) ∙ ap (λ (y : ℕ). member y t) (sym e) ∙ h))
-      (λ ne. g .out u (sym (w .other u ne) ∙ h));
-}
 
 -- ---- a source for a destination
 pub choice-law : (n : ℕ) (may : List ℕ) (sources j heard s r : ℕ) → heard ≡ getD may j 0 → Both sources heard s → First s r → n ≤ 64 → Choice n may sources j r
