@@ -1,3 +1,5 @@
--- The laws of holding a pairing.
-pub mod Turns
-pub mod Placing
+-- The laws of turns: levels, what is heard, what is taken, and what a turn leaves to the next.
+pub mod LevelLaws
+pub mod HearLaws
+pub mod TakeLaws
+pub mod TurnLaws

@@ -1,17 +1,16 @@
--- Holding a pairing for some slots. A table has for each pair what it keeps and what it still gets, idle slots too; `source` has each
--- destination's source, and `bytes` what each destination hears meanwhile.
+-- What a pairing sets the switch to, and for how long. A table has for each pair what it keeps and what it still gets, idle slots too; `source`
+-- has each destination's source, and `bytes` what each destination hears meanwhile.
 use Prim.Native.Nat.{ℕ, _+_, _-_, _*_, _<_, _≤_, min}
 use mathlib.Core.Path.{_≡_}
 use mathlib.Core.Logic.{_⊎_}
 use mathlib.Core.Bool.{cond}
 use mathlib.Core.List.{List}
-use lib.ListN.{length, getD, drop}
+use lib.ListN.{length, getD}
 use lib.Dec.{ltb}
 use Rattle.sums.specs.Sums.{hit}
 use Rattle.sums.specs.Tables.{cell}
 use Rattle.star.specs.Tables.{Square}
 use Rattle.star.specs.Lines.{lineSum}
-use Rattle.star.specs.Schedules.{ConflictFree, count}
 use Rattle.cells.specs.Cells.{paddedIn, keptIn}
 use Rattle.pairs.specs.Pairs.{taken}
 
@@ -43,12 +42,6 @@ pub record Hears (n : ℕ) (table source bytes : List ℕ) (most h : ℕ) : Type
   pub lasts : (j : ℕ) → j < n → h ≤ lasting (cell n (paddedIn table) (getD source j 0) j) (cell n (keptIn table) (getD source j 0) j)
   pub says : (j : ℕ) → j < n → getD bytes j 0 ≡ heardFrom (cell n (paddedIn table) (getD source j 0) j) (cell n (keptIn table) (getD source j 0) j) (getD source j 0)
 
-pub record CanTake (n : ℕ) (table source : List ℕ) (h : ℕ) : Type 0 where
-  pub table-room : Square n table
-  pub sources : n ≤ length source
-  pub full : (j : ℕ) → j < n → getD source j 0 < n
-  pub enough : (j : ℕ) → j < n → h ≤ cell n (paddedIn table) (getD source j 0) j
-
 -- y is x with h less at the pair of each destination and its source
 pub record Taken (n : ℕ) (x y source : List ℕ) (h : ℕ) : Type 0 where
   pub less : (i j : ℕ) → i < n → j < n → cell n y i j + h * hit (getD source j 0) i ≡ cell n x i j
@@ -58,25 +51,13 @@ pub record Takes (n : ℕ) (table table' source : List ℕ) (h : ℕ) : Type 0 w
   pub less : Taken n (paddedIn table) (paddedIn table') source h
   pub kept : keptIn table' ≡ keptIn table
 
--- The setting that comes next: it can be held for h slots, and those are taken. Nobody hears two sources, no source is heard twice, and
--- the slots that are due no longer are those in which the pair is heard.
-pub record Next (n : ℕ) (table table' source bytes : List ℕ) (most h : ℕ) : Type 0 where
+-- The setting that comes next: it is held for h slots, and those are taken. Nobody hears two sources, no source is heard twice, the slots
+-- that are due no longer are those in which the pair is heard, and the pairs keep what they did.
+pub record Next (n : ℕ) (table table' bytes : List ℕ) (left h : ℕ) : Type 0 where
   pub some : 1 ≤ h
-  pub within : h ≤ most
-  pub takes : Takes n table table' source h
+  pub within : h ≤ left
   pub lines : (ℓ : ℕ) → ℓ < 2 * n → lineSum n (paddedIn table') ℓ + h ≡ lineSum n (paddedIn table) ℓ
   pub dues : (i j : ℕ) → i < n → j < n → due n table' i j + h * hit (getD bytes j 0) i ≡ due n table i j
   pub heard : (j : ℕ) → j < n → (getD bytes j 0 < n) ⊎ (getD bytes j 0 ≡ 255)
   pub once : (j v : ℕ) → j < n → v < n → getD bytes j 0 < n → getD bytes j 0 ≡ getD bytes v 0 → j ≡ v
-
--- the slots from `from` up to `to` hold the bytes, those before are as they were, and so is what comes after
-pub record Wrote (n : ℕ) (s u bytes : List ℕ) (from to : ℕ) : Type 0 where
-  pub new : (k j : ℕ) → from ≤ k → k < to → j < n → cell n u k j ≡ getD bytes j 0
-  pub old : (k j : ℕ) → k < from → j < n → cell n u k j ≡ cell n s k j
-  pub beyond : drop (to * n) u ≡ drop (to * n) s
-
--- what the pairs keep is placed up to slot t of r: every line has the slots that are left, and what is counted and what is due make what is kept
-pub record Placed (n r t : ℕ) (table schedule : List ℕ) : Type 0 where
-  pub lines : (ℓ : ℕ) → ℓ < 2 * n → lineSum n (paddedIn table) ℓ + t ≡ r
-  pub counts : (i j : ℕ) → i < n → j < n → count n t schedule i j + due n table i j ≡ cell n (keptIn table) i j
-  pub free : ConflictFree n t schedule
+  pub kept : keptIn table' ≡ keptIn table

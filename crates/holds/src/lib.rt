@@ -1,4 +1,5 @@
-// Holding a pairing of all sources and destinations for some slots of the frame: which setting comes next and for how long, and writing a
-// setting into slots. `source` has each destination's source.
-pub mod settings;
-pub mod writing;
+// Which setting of the switch comes next, and for how many slots it is held. What to do with a setting is the caller's: it may write slots or
+// a list of settings. `source` has each destination's source, and `destination` each source's destination.
+mod levels;
+mod settings;
+pub mod turns;

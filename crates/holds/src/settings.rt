@@ -1,9 +1,8 @@
-// Which setting comes next, and for how many slots. A pair is idle first and due then: where it still gets more slots than it keeps, what
-// is more is idle.
+// What a pairing of all sources and destinations sets the switch to, and for how long. A pair is idle first and due then: where it still gets
+// more slots than it keeps, what is more is idle.
 use arrays::lists;
 ghost use mathlib.Core.Path.{_≡_};
-ghost use Prim.Native.Nat.{_<_};
-ghost use Rattle.holds.specs.Holds.{lasting, heardFrom, CanHear, Hears, CanTake, Takes, Next};
+ghost use Rattle.holds.specs.Holds.{lasting, heardFrom, CanHear, Hears};
 
 // For how many slots a pair's byte stays the same: as long as it is idle, and then as long as it is due.
 fn lasting_of(padded: u32, kept: u32) -> u32
@@ -26,7 +25,7 @@ fn heard_of(padded: u32, kept: u32, i: usize) -> usize
 }
 
 // What each destination hears, and for how many slots none of it changes, at most `most`.
-fn hear(n: usize, table: &[u32], source: &[u8], bytes: &mut [u8], most: u32) -> u32
+pub fn hear(n: usize, table: &[u32], source: &[u8], bytes: &mut [u8], most: u32) -> u32
     requires { ⌜ CanHear n (now table) (now source) (now bytes) most ⌝ }
     ensures { λ h. ⌜ Hears n (now (table .entry)) (now (source .entry)) (now (bytes .exit)) most h ⌝ }
 {
@@ -44,27 +43,5 @@ fn hear(n: usize, table: &[u32], source: &[u8], bytes: &mut [u8], most: u32) -> 
         }
         h = lasts;
     }
-    h
-}
-
-// Takes h slots from the pair of each destination and its source.
-fn take(n: usize, table: &mut [u32], source: &[u8], h: u32)
-    requires { ⌜ CanTake n (now table) (now source) h ⌝ }
-    ensures { λ _. ⌜ Takes n (now (table .entry)) (now (table .exit)) (now (source .entry)) h ⌝ }
-{
-    let mut j = 0;
-    while j < n {
-        cells::take(n, table, lists::byte(source, j), j, h);
-        j += 1;
-    }
-}
-
-// What each destination hears next, and for how many slots, at most `most`, which are taken from the pairs.
-pub fn next(n: usize, table: &mut [u32], source: &[u8], bytes: &mut [u8], most: u32) -> u32
-    requires { ⌜ CanHear n (now table) (now source) (now bytes) most ⌝ }
-    ensures { λ h. ⌜ Next n (now (table .entry)) (now (table .exit)) (now (source .entry)) (now (bytes .exit)) most h ⌝ }
-{
-    let h = hear(n, table, source, bytes, most);
-    take(n, table, source, h);
     h
 }

@@ -1,3 +1,3 @@
--- The laws of placing: levels and rounds.
-pub mod LevelLaws
+-- The laws of placing: writing and rounds.
+pub mod WriteLaws
 pub mod RoundLaws

@@ -1,7 +1,6 @@
--- The rounds: what holds before each, that at level 1 there always is a pairing, and how they start and end. The laws assume nothing.
+-- The rounds: what holds before each turn, and how they start and end. The laws assume nothing.
 use mathlib.Core.Path.{_≡_, refl, sym, ap, _∙_, subst}
 use mathlib.Core.Logic.{_⊎_, inr}
-use mathlib.Core.Bool.{Bool, false}
 use mathlib.Core.List.{List, _++_}
 use Prim.Native.Nat.{ℕ, _+_, _-_, _*_, _≤_, _<_}
 use native.Mathlib.Omega.{arith}
@@ -10,42 +9,25 @@ use lib.Seq.{length-take-le}
 use Rattle.sums.specs.Sums.{sumTo, hit}
 use Rattle.sums.specs.Tables.{cell}
 use Rattle.sums.proofs.Sums.{sum-ext, sum-none, sum-run, hit-other}
-use Rattle.sums.proofs.Cases.{by-eq, by-lt}
+use Rattle.sums.proofs.Cases.{by-lt}
 use Rattle.sums.proofs.Tables.{take-cell}
 use Rattle.star.specs.Schedules.{count, Carries, reconfigurations}
-use Rattle.star.proofs.LineLaws.{row-sum, column-sum, line-ext, cell-in-row, capacity}
+use Rattle.star.proofs.LineLaws.{line-ext, cell-in-row, capacity}
 use Rattle.arrays.specs.Arrays.{Frame}
 use Rattle.arrays.proofs.Stores.{square-kept, frame-kept, frame-less, beyond-more}
 use Rattle.cells.specs.Cells.{paddedIn, keptIn}
 use Rattle.cells.proofs.CellLaws.{nothing-left}
-use Rattle.pairs.specs.Pairs.{allowed, Paired, Full, Rooms, CanMatch, Matched}
-use Rattle.pairs.proofs.Counts.{never-stuck, taken-all}
-use Rattle.changes.specs.Changes.{changeAt}
-use Rattle.changes.proofs.ChangeLaws.{changes-more, changes-most, change-most}
+use Rattle.changes.proofs.ChangeLaws.{changes-most}
 use Rattle.idle.specs.Idle.{Small, Padded}
-use Rattle.holds.specs.Holds.{Placed, CanHear, Next, Wrote}
-use Rattle.holds.proofs.Placing.{placed-more}
-use Rattle.slots.specs.Levels.{Level}
-use Rattle.slots.specs.Rounds.{Extended, CanSettle, Rounded}
+use Rattle.holds.specs.declared.turns.Turn.{Turn}
+use Rattle.holds.specs.Turns.{Standing, CanTurn, Turned}
+use Rattle.slots.specs.Writing.{Extended}
+use Rattle.slots.specs.Rounds.{Placed, CanSettle, Rounded}
 use Rattle.slots.specs.Places.{CanPlace, Rested, Places}
+use Rattle.slots.proofs.WriteLaws.{placed-more}
 
--- ---- a setting in the slots that come next
-pub extended : {n : ℕ} {s u setting : List ℕ} {from to more : ℕ} → from < to → more ≡ changeAt n s from setting → Wrote n s u setting from to → Extended n s u setting from to more
-extended {n} {s} {u} {setting} {from} {to} lt e w =
-    let far : from + (to - from) ≡ to = omega arith in
-    let added : reconfigurations n (from + (to - from)) u ≡ reconfigurations n from s + changeAt n s from setting =
-    changes-more n s u setting from (to - from) (omega arith) (w .old) (λ k j lo hi hj. w .new k j lo (omega arith) hj) in
-    record {
-      wrote = w;
-      changes = omega (arith, rw far at added);
-      most = omega (arith, change-most n s from setting);
-    }
-
-pub rooms-kept : {n : ℕ} {may may' source destination : List ℕ} → length may' ≡ length may → Rooms n may source destination → Rooms n may' source destination
-rooms-kept e h = record { nodes = h .nodes; mays = omega (arith, h .mays); sources = h .sources; destinations = h .destinations }
-
--- before a round
-pub record Rounding (n r : ℕ) (table0 may0 source0 destination0 bytes0 schedule0 table may source destination bytes schedule : List ℕ) (level held changes t : ℕ) : Type 0 where
+-- before a turn
+pub record Rounding (n r : ℕ) (table0 may0 source0 destination0 bytes0 schedule0 table may source destination bytes schedule : List ℕ) (turn : Turn) (changes t : ℕ) : Type 0 where
   pub table-len : length table ≡ length table0
   pub may-len : length may ≡ length may0
   pub source-len : length source ≡ length source0
@@ -55,66 +37,36 @@ pub record Rounding (n r : ℕ) (table0 may0 source0 destination0 bytes0 schedul
   pub placed : Placed n r t table schedule
   pub kept : keptIn table ≡ keptIn table0
   pub changed : changes ≡ reconfigurations n t schedule
-  pub right : Level n (paddedIn table) may level
-  pub paired : Paired n may source destination
+  pub standing : Standing n table may source destination (turn .level) (turn .free)
   pub within : t ≤ r
-  pub few : held ≤ t
-  pub some : 1 ≤ level
-  pub most : level < 65536
+  pub few : turn .held + r ≤ 1024 + t
   pub beyond : drop (r * n) schedule ≡ drop (r * n) schedule0
 
-module _ {n r : ℕ} {table0 may0 source0 destination0 bytes0 schedule0 table may source destination bytes schedule : List ℕ} {level held changes t : ℕ}
-    (c : CanSettle n r table0 schedule0) (rooms : Rooms n may0 source0 destination0)
-    (g : Rounding n r table0 may0 source0 destination0 bytes0 schedule0 table may source destination bytes schedule level held changes t) where
-  pub round-rooms : {source' destination' : List ℕ} → length source' ≡ length source → length destination' ≡ length destination → Rooms n may source' destination'
-  round-rooms es ed = record {
-    nodes = rooms .nodes;
-    mays = omega (arith, rooms .mays, g .may-len);
-    sources = omega (arith, rooms .sources, g .source-len);
-    destinations = omega (arith, rooms .destinations, g .destination-len);
+module _ {n r : ℕ} {table0 may0 source0 destination0 bytes0 schedule0 table may source destination bytes schedule : List ℕ} {turn : Turn} {changes t : ℕ}
+    (c : CanSettle n r table0 schedule0)
+    (g : Rounding n r table0 may0 source0 destination0 bytes0 schedule0 table may source destination bytes schedule turn changes t) where
+  pub round-turn : t < r → n ≤ length bytes0 → CanTurn n table may source destination bytes turn (r - t)
+  round-turn lt outs = record {
+    standing = g .standing;
+    even = record { lines = λ ℓ hl. omega (arith, g .placed .lines ℓ hl); some = omega arith };
+    few = omega (arith, g .few);
+    outs = omega (arith, outs, g .bytes-len);
   }
-
-  pub round-match : CanMatch n may source destination
-  round-match = record { rooms = round-rooms refl refl; paired = g .paired }
 
   pub round-frame : {to : ℕ} → to ≤ r → Frame n to schedule
   round-frame le = frame-less (frame-kept schedule0 schedule (g .schedule-len) (c .frame)) le
 
-  -- at level 1 all can be paired, so a level at which not all can be is at least 2
-  pub level-two : {source' destination' : List ℕ} {b : Bool} → t < r → Matched n may source' destination' b → b ≡ false → 2 ≤ level
-  unfolding allowed
-  level-two lt m e =
-      by-eq level 1
-      (λ one. absurd (never-stuck (paddedIn table) (r - t) (m .paired .source-most) (omega arith)
-      (λ i hi. omega (arith, g .placed .lines i (omega arith), row-sum n (paddedIn table) i hi))
-      (λ j hj. omega (arith, g .placed .lines (n + j) (omega arith), column-sum n (paddedIn table) j))
-      (λ i j hi hj pos. g .right .all j hj .in' i hi (omega arith))
-      (m .none e)))
-      (λ ne. omega (arith, g .some))
-
-  pub round-hear : {source' destination' : List ℕ} → t < r → n ≤ length bytes0 → length source' ≡ length source → Paired n may source' destination' → Full n source'
-      → CanHear n table source' bytes (r - t)
-  unfolding allowed
-  round-hear {source'} lt outs es p f = record {
-    table-room = square-kept table0 table (g .table-len) (c .table-room);
-    sources = omega (arith, rooms .sources, g .source-len);
-    outs = omega (arith, outs, g .bytes-len);
-    full = f .all;
-    once = taken-all p f;
-    gets = λ j hj. omega (arith, g .some, g .right .all j hj .out (getD source' j 0) (f .all j hj) (p .allows j hj (f .all j hj)));
-    some = omega arith;
-  }
-
   -- ---- the setting is written
-  module _ {table' source' bytes' schedule' : List ℕ} {h more : ℕ} (d : Next n table table' source' bytes' (r - t) h) (x : Extended n schedule schedule' bytes' t (t + h) more) where
-    pub round-placed : Placed n r (t + h) table' schedule'
-    round-placed = placed-more d (x .wrote) (g .placed)
+  module _ {table' may' source' destination' bytes' schedule' : List ℕ} {turn' : Turn} {more : ℕ} (d : Turned n table table' may' source' destination' bytes' (r - t) turn')
+      (x : Extended n schedule schedule' bytes' t (t + turn' .slots) more) where
+    pub round-placed : Placed n r (t + turn' .slots) table' schedule'
+    round-placed = placed-more (d .next) (x .wrote) (g .placed)
 
-    pub round-changed : changes + more ≡ reconfigurations n (t + h) schedule'
+    pub round-changed : changes + more ≡ reconfigurations n (t + turn' .slots) schedule'
     round-changed = omega (arith, g .changed, x .changes)
 
     pub round-beyond : t < r → drop (r * n) schedule' ≡ drop (r * n) schedule0
-    round-beyond lt = beyond-more n (t + h) r schedule' schedule (omega (arith, d .within)) (x .wrote .beyond) ∙ g .beyond
+    round-beyond lt = beyond-more n (t + turn' .slots) r schedule' schedule (omega (arith, d .next .within)) (x .wrote .beyond) ∙ g .beyond
 
   pub round-few : changes ≤ t
   round-few = omega (arith, g .changed, changes-most n t schedule)

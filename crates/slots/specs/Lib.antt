@@ -1,4 +1,4 @@
 -- The definitions that the contracts cite.
-pub mod Levels
+pub mod Writing
 pub mod Rounds
 pub mod Places

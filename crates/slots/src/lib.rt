@@ -5,7 +5,6 @@
 //
 // Working memory: the lent kept table, which is at the end as it was, and lists on the stack: 704 bytes while slots are placed, 64 more
 // while nodes are paired, and before that 256 while lines are padded.
-mod levels;
 pub mod placing;
 mod rounds;
 mod writing;

@@ -2,7 +2,7 @@
 use Prim.Native.Nat.{_-_}
 use native.Mathlib.Omega.{arith}
 use borrow.Author.Needs.{needs}
-use Rattle.holds.proofs.Turns.{Hearing, hear-start, hear-keep, hear-less, hear-end, heard-byte}
+use Rattle.holds.proofs.HearLaws.{Hearing, hear-start, hear-keep, hear-less, hear-end, heard-byte}
 use Rattle.holds.proofs.settings.hear.Statement.{statement}
 use Rattle.holds.proofs.settings.hear.Tie as tie
 

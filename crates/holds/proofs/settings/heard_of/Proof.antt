@@ -1,6 +1,6 @@
 -- `holds::settings::heard_of` meets its contract: by the two cases of the definition. Assumes nothing.
 use mathlib.Core.Path.{sym}
-use Rattle.holds.proofs.Turns.{heard-idle, heard-due}
+use Rattle.holds.proofs.HearLaws.{heard-idle, heard-due}
 use Rattle.holds.proofs.settings.heard_of.Statement.{statement}
 use Rattle.holds.proofs.settings.heard_of.Tie as tie
 

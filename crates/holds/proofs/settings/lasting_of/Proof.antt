@@ -1,7 +1,7 @@
 -- `holds::settings::lasting_of` meets its contract: by the two cases of the definition. Assumes nothing.
 use mathlib.Core.Path.{sym}
 use borrow.Author.Needs.{needs}
-use Rattle.holds.proofs.Turns.{lasting-idle, lasting-due}
+use Rattle.holds.proofs.HearLaws.{lasting-idle, lasting-due}
 use Rattle.holds.proofs.settings.lasting_of.Statement.{statement}
 use Rattle.holds.proofs.settings.lasting_of.Tie as tie
 

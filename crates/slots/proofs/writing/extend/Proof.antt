@@ -2,7 +2,7 @@
 use native.Mathlib.Omega.{arith}
 use borrow.Author.Needs.{needs}
 use Rattle.arrays.proofs.Stores.{frame-less}
-use Rattle.slots.proofs.RoundLaws.{extended}
+use Rattle.slots.proofs.WriteLaws.{extended}
 use Rattle.slots.proofs.writing.extend.Statement.{statement}
 use Rattle.slots.proofs.writing.extend.Tie as tie
 
