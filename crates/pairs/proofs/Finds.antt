@@ -8,8 +8,7 @@ use native.Mathlib.Omega.{arith}
 use native.Mathlib.Nat.{mul-le-mul-left}
 use borrow.Author.Tests.{lt-ltb, le-ltb}
 use lib.Dec.{ltb}
-use lib.ListN.{length, getD, set, length-set}
-use lib.Seq.{getD-set-same, getD-set-other}
+use lib.ListN.{length, getD}
 use Rattle.sums.specs.Sums.{hit}
 use Rattle.sums.proofs.Sums.{hit-same, hit-other}
 use Rattle.sums.proofs.Cases.{by-eq, by-lt}
@@ -17,7 +16,7 @@ use Rattle.nodes.specs.Sets.{member, size, All, Without, Both, Minus, First}
 use Rattle.nodes.proofs.Members.{member-lt}
 use Rattle.nodes.proofs.Sizes.{size-without, size-parted}
 use Rattle.pairs.specs.Pairs.{allowed}
-use Rattle.pairs.specs.Ways.{Choice, Settled, Peeked, Spread, Leads, Shut, CanSearch, Searched}
+use Rattle.pairs.specs.Ways.{CanSpread, Met, Opened, Leads, Shut, CanSearch, Searched}
 
 -- `left` has the sources that no reached destination may hear, `todo` the destinations that are reached and not done
 pub record Finding (n : ℕ) (may destination next0 next : List ℕ) (sources destinations todo left : ℕ) : Type 0 where
@@ -83,20 +82,6 @@ module _ {n : ℕ} {may destination next0 next : List ℕ} {sources destinations
   top-some : 0 < g .top
   top-some = omega (arith, g .low j hj)
 
-  -- each source that can move to j for the first time has a destination
-  pub find-settled : {heard new : ℕ} → heard ≡ getD may j 0 → Both left heard new → Settled n destination new
-  unfolding allowed
-  find-settled {heard} {new} eh b = record {
-    paired = λ i hi e. by-lt (getD destination i 0) n (λ lt. lt)
-        (λ le. absurd (g .dry j hj here i hi (c .free .in' i hi le) (ap (member i) (sym eh) ∙ in-heard i e)));
-  }
-    where
-      in-heard : (i : ℕ) → member i new ≡ 1 → member i heard ≡ 1
-      in-heard i e =
-          by-eq (member i heard) 0
-          (λ z. absurd (let q : member i left * member i heard ≡ 0 = rw z (omega arith) in omega (arith, b .members i)))
-          (λ ne. omega (arith, member-lt i heard))
-
   module _ {heard new : ℕ} (eh : heard ≡ getD may j 0) (b : Both left heard new) where
     new-left : (i : ℕ) → member i new ≡ 1 → member i left ≡ 1
     new-left i e =
@@ -104,12 +89,30 @@ module _ {n : ℕ} {may destination next0 next : List ℕ} {sources destinations
         (λ z. absurd (let q : member i left * member i heard ≡ 0 = rw z (omega arith) in omega (arith, b .members i)))
         (λ ne. omega (arith, member-lt i left))
 
+    not-new : (i : ℕ) → member i left ≡ 0 → member i new ≡ 0
+    not-new i z = b .members i ∙ rw z (omega arith)
+
     new-allowed : (i : ℕ) → member i new ≡ 1 → allowed may i j ≡ 1
     unfolding allowed
     new-allowed i e =
         by-eq (member i heard) 0
         (λ z. absurd (let q : member i left * member i heard ≡ 0 = rw z (omega arith) in omega (arith, b .members i)))
         (λ ne. ap (member i) (sym eh) ∙ omega (arith, member-lt i heard))
+
+    -- each source that can move to j for the first time has a destination
+    new-paired : (i : ℕ) → i < n → member i new ≡ 1 → getD destination i 0 < n
+    new-paired i hi e = by-lt (getD destination i 0) n (λ lt. lt) (λ le. absurd (g .dry j hj here i hi (c .free .in' i hi le) (new-allowed i e)))
+
+    pub find-spread : CanSpread n may destination next sources new j
+    find-spread = record {
+      nodes = c .nodes;
+      mays = c .mays;
+      lists = c .lists;
+      nexts = omega (arith, c .nexts, g .len);
+      within = hj;
+      free = c .free;
+      paired = new-paired;
+    }
 
     -- a way stays one where sources that were left move to j, and their destinations are marked
     module _ (next' : List ℕ) (mark : ℕ → ℕ)
@@ -157,35 +160,30 @@ module _ {n : ℕ} {may destination next0 next : List ℕ} {sources destinations
           top-up t m pos = let q : t * 1 ≤ t * m = mul-le-mul-left t pos in omega arith
 
     -- the search meets source r, which has no destination
-    pub find-found : {i k r : ℕ} → Peeked n may destination sources new i → i < n → k ≡ getD destination i 0 → Choice n may sources k r → r < n
-        → Searched n may destination (set (set next i j) r k) destinations r
-    find-found {i} {k} {r} p hi ek ch hr =
-        let hd : getD destination i 0 < n = find-settled eh b .paired i hi (p .among hi) in
-        let fr : n ≤ getD destination r 0 = c .free .out r hr (ch .among hr) in
-        let apart : (i ≡ r → ⊥) = λ e. omega (arith, ap (λ (x : ℕ). getD destination x 0) e) in
+    pub find-found : {next' : List ℕ} {r : ℕ} → Met n may destination next next' sources new j r → r < n → Searched n may destination next' destinations r
+    find-found {next'} {r} p hr =
+        let i : ℕ = p .who in
+        let hd : getD destination i 0 < n = new-paired i (p .within) (p .among) in
         let blank : g .rank (getD destination i 0) ≡ 0 =
-        by-eq (g .rank (getD destination i 0)) 0 (λ z. z) (λ ne. absurd (omega (arith, new-left i (p .among hi), g .seen i hi hd (omega arith)))) in
-        let to-k : getD (set (set next i j) r k) r 0 ≡ k = getD-set-same (set next i j) r k 0 (omega (arith, length-set next i j, g .len, c .nexts)) in
-        let to-j : getD (set (set next i j) r k) i 0 ≡ j = getD-set-other (set next i j) r i k 0 apart ∙ getD-set-same next i j 0 (omega (arith, g .len, c .nexts)) in
+        by-eq (g .rank (getD destination i 0)) 0 (λ z. z) (λ ne. absurd (omega (arith, new-left i (p .among), g .seen i (p .within) hd (omega arith)))) in
+        let fr : n ≤ getD destination r 0 = c .free .out r hr (p .free) in
         let mark : ℕ → ℕ = λ u. hit (getD destination i 0) u in
         let one : mark (getD destination i 0) ≡ 1 = hit-same {a = getD destination i 0} refl in
         record {
           within = omega arith;
           found = λ lt. record {
             rank = relabel (g .rank) (g .top) mark;
-            leads = more-leads (set (set next i j) r k) mark
-                (λ u hu z.
-                getD-set-other (set next i j) r u k 0 (λ e. omega (arith, g .paired u hu z, ap (λ (x : ℕ). getD destination x 0) e))
-                ∙ getD-set-other next i u j 0 (λ e. omega (arith, new-left i (p .among hi), ap (λ (x : ℕ). member x left) e)))
+            leads = more-leads next' mark
+                (λ u hu z. p .rest u hu (not-new u z) (λ e. omega (arith, g .paired u hu z, ap (λ (x : ℕ). getD destination x 0) e)))
                 (λ u hu hud z pos.
                 let same : getD destination i 0 ≡ getD destination u 0 =
                 by-eq (getD destination i 0) (getD destination u 0) (λ e. e) (λ ne. absurd (omega (arith, hit-other ne))) in
-                let e : i ≡ u = c .once i u hi hu hd same in
-                (ap (λ (x : ℕ). getD (set (set next i j) r k) x 0) (sym e) ∙ to-j, ap (λ (x : ℕ). allowed may x j) (sym e) ∙ new-allowed i (p .among hi)));
+                let e : i ≡ u = c .once i u (p .within) hu hd same in
+                (ap (λ (x : ℕ). getD next' x 0) (sym e) ∙ p .moves, ap (λ (x : ℕ). allowed may x j) (sym e) ∙ new-allowed i (p .among)));
             hop = record {
-              within = rw (to-k, ek) hd;
-              allows = rw to-k (ch .allows hr);
-              reached = rw (to-k, ek)
+              within = rw (p .meets) hd;
+              allows = rw (p .meets) (p .allows);
+              reached = rw (p .meets)
                   (omega (arith, top-some, rank-new (g .rank) (g .top) mark (getD destination i 0) blank, ap (λ (x : ℕ). g .top * x) one));
             };
             free = fr;
@@ -194,13 +192,10 @@ module _ {n : ℕ} {may destination next0 next : List ℕ} {sources destinations
         }
 
     -- all that can move to j is marked
-    module _ {left' todo' todo'' i : ℕ} {next' : List ℕ} (m : Minus left heard left') (w : Without todo j todo')
-        (p : Peeked n may destination sources new i) (le : n ≤ i) (s : Spread n destination next next' new j todo' todo'') (len : length next' ≡ length next) where
+    module _ {left' todo' todo'' : ℕ} {next' : List ℕ} (m : Minus left heard left') (w : Without todo j todo')
+        (s : Opened n may destination next next' sources new j todo' todo'') (len : length next' ≡ length next) where
       parted : (k : ℕ) → member k left' + member k new ≡ member k left
       parted k = omega (arith, b .members k, m .members k)
-
-      not-new : (k : ℕ) → member k left ≡ 0 → member k new ≡ 0
-      not-new k z = omega (arith, parted k)
 
       -- a destination to do that is not reached yet is that of a new source
       fresh-new : (k : ℕ) → k < n → getD destination k 0 < n → g .rank (getD destination k 0) ≡ 0 → 0 < member (getD destination k 0) todo'' → member k new ≡ 1
@@ -251,7 +246,7 @@ module _ {n : ℕ} {may destination next0 next : List ℕ} {sources destinations
       to-do : (u : ℕ) → u < n → member u todo'' ≡ 1 → (i : ℕ) → i < n → member i sources ≡ 1 → allowed may i u ≡ 1 → ⊥
       to-do u hu e =
           by-eq (member u todo') 0
-          (λ z. let o = s .none u hu e z in rw (sym (o .there)) (p .none le (o .who) (o .within) (o .among)))
+          (λ z. let o = s .none u hu e z in rw (sym (o .there)) (s .dry (o .who) (o .within) (o .among)))
           (λ ne. by-eq u j
           (λ q. absurd (ne (ap (λ (x : ℕ). member x todo') q ∙ w .here)))
           (λ nj. g .dry u hu (sym (w .other u nj) ∙ omega (arith, member-lt u todo'))))
@@ -284,7 +279,7 @@ module _ {n : ℕ} {may destination next0 next : List ℕ} {sources destinations
             omega (arith, parted k, g .closed k u hk hu was gone e));
         paired = λ k hk z. by-eq (member k left) 0
             (λ y. g .paired k hk y)
-            (λ ne. find-settled eh b .paired k hk (omega (arith, parted k, member-lt k left)));
+            (λ ne. new-paired k hk (omega (arith, parted k, member-lt k left)));
         reached = λ k hk z. by-eq (member k left) 0
             (λ y. kept-rank (getD destination k 0) (g .reached k hk y))
             (λ ne. new-opened (getD destination k 0) (s .come k hk (omega (arith, parted k, member-lt k left))));

@@ -21,29 +21,32 @@ pub record Choice (n : ℕ) (may : List ℕ) (sources j r : ℕ) : Type 0 where
   pub allows : r < n → allowed may r j ≡ 1
   pub none : n ≤ r → (i : ℕ) → i < n → member i sources ≡ 1 → allowed may i j ≡ 1 → ⊥
 
--- destination j may hear one of the sources
-pub record Hears (n : ℕ) (may : List ℕ) (sources j : ℕ) : Type 0 where
-  pub who : ℕ
-  pub within : who < n
-  pub among : member who sources ≡ 1
-  pub allows : allowed may who j ≡ 1
-
 -- pairs, where no free destination may hear a free source
 pub record Directed (n : ℕ) (may source destination : List ℕ) (sources destinations : ℕ) : Type 0 where
   pub paired : Paired n may source destination
   pub free : FreeNodes n source destination sources destinations
   pub dry : (j : ℕ) → j < n → member j destinations ≡ 1 → (i : ℕ) → i < n → member i sources ≡ 1 → allowed may i j ≡ 1 → ⊥
 
--- the sources of the set have a destination
-pub record Settled (n : ℕ) (destination : List ℕ) (new : ℕ) : Type 0 where
+-- `sources` have no destination, and the new ones have one
+pub record CanSpread (n : ℕ) (may destination next : List ℕ) (sources new j : ℕ) : Type 0 where
+  pub nodes : n ≤ 64
+  pub mays : n ≤ length may
+  pub lists : n ≤ length destination
+  pub nexts : n ≤ length next
+  pub within : j < n
+  pub free : Unpaired n destination sources
   pub paired : (i : ℕ) → i < n → member i new ≡ 1 → getD destination i 0 < n
 
--- r is one of the new sources, and its destination may hear one of the sources; or there is none
-pub record Peeked (n : ℕ) (may destination : List ℕ) (sources new r : ℕ) : Type 0 where
-  pub within : r ≤ n
-  pub among : r < n → member r new ≡ 1
-  pub hears : r < n → Hears n may sources (getD destination r 0)
-  pub none : n ≤ r → (k : ℕ) → k < n → member k new ≡ 1 → (i : ℕ) → i < n → member i sources ≡ 1 → allowed may i (getD destination k 0) ≡ 1 → ⊥
+-- r, one of the sources, can move to the destination of a new one, and that one to j
+pub record Met (n : ℕ) (may destination next next' : List ℕ) (sources new j r : ℕ) : Type 0 where
+  pub who : ℕ
+  pub within : who < n
+  pub among : member who new ≡ 1
+  pub moves : getD next' who 0 ≡ j
+  pub free : member r sources ≡ 1
+  pub meets : getD next' r 0 ≡ getD destination who 0
+  pub allows : allowed may r (getD destination who 0) ≡ 1
+  pub rest : (i : ℕ) → i < n → member i new ≡ 0 → (i ≡ r → ⊥) → getD next' i 0 ≡ getD next i 0
 
 -- a new source whose destination is j
 pub record From (n : ℕ) (destination : List ℕ) (new j : ℕ) : Type 0 where
@@ -52,14 +55,19 @@ pub record From (n : ℕ) (destination : List ℕ) (new j : ℕ) : Type 0 where
   pub among : member who new ≡ 1
   pub there : getD destination who 0 ≡ j
 
--- the new sources can move to j, and their destinations come to those to do
-pub record Spread (n : ℕ) (destination next next' : List ℕ) (new j todo r : ℕ) : Type 0 where
+-- the new sources can move to j, and their destinations, which may hear none of the sources, come to those to do
+pub record Opened (n : ℕ) (may destination next next' : List ℕ) (sources new j todo todo' : ℕ) : Type 0 where
   pub moves : (i : ℕ) → i < n → member i new ≡ 1 → getD next' i 0 ≡ j
   pub rest : (i : ℕ) → i < n → member i new ≡ 0 → getD next' i 0 ≡ getD next i 0
-  pub come : (i : ℕ) → i < n → member i new ≡ 1 → member (getD destination i 0) r ≡ 1
-  pub kept : (k : ℕ) → k < n → member k todo ≡ 1 → member k r ≡ 1
-  pub none : (k : ℕ) → k < n → member k r ≡ 1 → member k todo ≡ 0 → From n destination new k
-  pub many : size n r ≤ size n todo + size n new
+  pub come : (i : ℕ) → i < n → member i new ≡ 1 → member (getD destination i 0) todo' ≡ 1
+  pub dry : (i : ℕ) → i < n → member i new ≡ 1 → (k : ℕ) → k < n → member k sources ≡ 1 → allowed may k (getD destination i 0) ≡ 1 → ⊥
+  pub kept : (k : ℕ) → k < n → member k todo ≡ 1 → member k todo' ≡ 1
+  pub none : (k : ℕ) → k < n → member k todo' ≡ 1 → member k todo ≡ 0 → From n destination new k
+  pub many : size n todo' ≤ size n todo + size n new
+
+pub record Spread (n : ℕ) (may destination next next' : List ℕ) (sources new j todo found todo' : ℕ) : Type 0 where
+  pub met : found < n → Met n may destination next next' sources new j found
+  pub none : n ≤ found → Opened n may destination next next' sources new j todo todo'
 
 -- source i can move to a destination from which an end is known
 pub record Hop (n : ℕ) (may next : List ℕ) (rank : ℕ → ℕ) (i : ℕ) : Type 0 where

@@ -3,7 +3,7 @@
 use arrays::lists;
 ghost use Prim.Native.Nat.{_<_, _≤_};
 ghost use lib.ListN.{length};
-ghost use Rattle.pairs.specs.Ways.{Choice, Settled, Peeked, Spread, CanSearch, Searched};
+ghost use Rattle.pairs.specs.Ways.{Choice, CanSpread, Spread, CanSearch, Searched};
 
 // One of the sources that destination j may hear; n or above where there is none.
 pub fn choice(n: usize, may: &[u64], sources: u64, j: usize) -> usize
@@ -13,40 +13,48 @@ pub fn choice(n: usize, may: &[u64], sources: u64, j: usize) -> usize
     nodes::first(nodes::both(sources, lists::set_at(may, j)))
 }
 
-// One of the new sources whose destination may hear one of the sources, or n. So the search ends a step before it would meet them.
-fn peek(n: usize, may: &[u64], destination: &[u8], sources: u64, new: u64) -> usize
-    requires { ⌜ (n ≤ 64) × (n ≤ length (now may)) × (n ≤ length (now destination)) ⌝ }
-    requires { ⌜ Settled n (now destination) new ⌝ }
-    ensures { λ r. ⌜ Peeked n (now (may .entry)) (now (destination .entry)) sources new r ⌝ }
-{
-    let mut left = new;
-    loop {
-        let i = nodes::first(left);
-        if i >= n {
-            return n;
-        }
-        if choice(n, may, sources, lists::byte(destination, i)) < n {
-            return i;
-        }
-        left = nodes::without(left, i);
-    }
+// What a step of the search gives: a free source from which a way is found, or n, and the destinations that are to do.
+struct Step {
+    found: usize,
+    todo: u64,
 }
 
-// The new sources can move to j. Gives what is to do, with the destinations that they leave.
-fn spread(n: usize, destination: &[u8], next: &mut [u8], new: u64, j: usize, todo: u64) -> u64
-    requires { ⌜ (n ≤ 64) × (n ≤ length (now destination)) × (n ≤ length (now next)) × (j < n) ⌝ }
-    requires { ⌜ Settled n (now destination) new ⌝ }
-    ensures { λ r. ⌜ Spread n (now (destination .entry)) (now (next .entry)) (now (next .exit)) new j todo r ⌝ }
+// The new sources can move to j, and the destinations that they leave are to do. Where one of these may hear a free source a way is found: so
+// the search ends a step before it would meet the free sources.
+fn spread(
+    n: usize,
+    may: &[u64],
+    destination: &[u8],
+    next: &mut [u8],
+    sources: u64,
+    new: u64,
+    j: usize,
+    todo: u64,
+) -> Step
+    requires { ⌜ CanSpread n (now may) (now destination) (now next) sources new j ⌝ }
+    ensures { λ r. ⌜ Spread n (now (may .entry)) (now (destination .entry)) (now (next .entry)) (now (next .exit)) sources new j todo (r .found) (r .todo) ⌝ }
 {
     let mut reached = todo;
     let mut left = new;
     loop {
         let i = nodes::first(left);
         if i >= n {
-            return reached;
+            return Step {
+                found: n,
+                todo: reached,
+            };
         }
         lists::put_byte(next, i, j);
-        reached = nodes::with(reached, lists::byte(destination, i));
+        let k = lists::byte(destination, i);
+        let r = choice(n, may, sources, k);
+        if r < n {
+            lists::put_byte(next, r, k);
+            return Step {
+                found: r,
+                todo: reached,
+            };
+        }
+        reached = nodes::with(reached, k);
         left = nodes::without(left, i);
     }
 }
@@ -70,17 +78,14 @@ pub fn search(
         if j >= n {
             return n;
         }
+        todo = nodes::without(todo, j);
         let heard = lists::set_at(may, j);
         let new = nodes::both(left, heard);
-        let i = peek(n, may, destination, sources, new);
-        if i < n {
-            let k = lists::byte(destination, i);
-            let r = choice(n, may, sources, k);
-            lists::put_byte(next, i, j);
-            lists::put_byte(next, r, k);
-            return r;
-        }
         left = nodes::minus(left, heard);
-        todo = spread(n, destination, next, new, j, nodes::without(todo, j));
+        let step = spread(n, may, destination, next, sources, new, j, todo);
+        if step.found < n {
+            return step.found;
+        }
+        todo = step.todo;
     }
 }

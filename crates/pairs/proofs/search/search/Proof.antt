@@ -4,8 +4,7 @@ use native.Mathlib.Omega.{arith}
 use mathlib.Core.Path.{_∙_}
 use borrow.Author.Needs.{needs}
 use Rattle.nodes.specs.Sets.{size}
-use Rattle.pairs.proofs.Finds.{Finding, find-start, find-fail, find-settled, find-found, find-step, find-falls}
-use Rattle.pairs.proofs.Scans.{choice-there}
+use Rattle.pairs.proofs.Finds.{Finding, find-start, find-fail, find-spread, find-found, find-step, find-falls}
 use Rattle.pairs.proofs.search.search.Statement.{statement}
 use Rattle.pairs.proofs.search.search.Tie as tie
 
@@ -30,47 +29,32 @@ same-length c = c .before .before .loop .inv .len
 returns : tie.Need-returns Inv-loop μ-loop
 returns c = record { within = omega arith; found = λ lt. absurd (omega arith); none = λ le. find-fail (c .before .before .loop .inv) (c .before .first .ensures) (c .if1 .taken) }
 
+without-requires : tie.Need-without-requires Inv-loop μ-loop
+without-requires c κs = omega (arith, c .before .before .before .before .before .before .before .pre .nodes)
+
 set-at-requires : tie.Need-set-at-requires Inv-loop μ-loop
-set-at-requires c κs = omega (arith, c .before .before .before .before .before .before .before .pre .mays)
+set-at-requires c κs = omega (arith, c .before .before .before .before .before .before .before .before .pre .mays)
 
 both-requires : tie.Need-both-requires Inv-loop μ-loop
 both-requires c κs = search needs
 
-peek-requires : tie.Need-peek-requires Inv-loop μ-loop
-peek-requires c κs = ((c .before .before .before .before .before .before .before .before .before .pre .nodes, c .before .before .before .before .before .before .before .before .before .pre .mays, c .before .before .before .before .before .before .before .before .before .pre .lists), find-settled (c .before .before .before .before .before .before .before .before .before .pre) (c .before .before .before .before .loop .inv) (c .before .before .before .first .ensures) (c .before .before .if1 .left) (c .before .set-at .ensures) (c .both .ensures))
-
-byte-requires : tie.Need-byte-requires Inv-loop μ-loop
-byte-requires c κs = omega (arith, c .before .before .before .before .before .before .before .before .before .before .before .pre .lists)
-
-choice-requires : tie.Need-choice-requires Inv-loop μ-loop
-choice-requires c κs = (c .before .before .before .before .before .before .before .before .before .before .before .before .pre .nodes, c .before .before .before .before .before .before .before .before .before .before .before .before .pre .mays, rw (c .byte .ensures .0) (find-settled (c .before .before .before .before .before .before .before .before .before .before .before .before .pre) (c .before .before .before .before .before .before .before .loop .inv) (c .before .before .before .before .before .before .first .ensures) (c .before .before .before .before .before .if1 .left) (c .before .before .before .before .set-at .ensures) (c .before .before .before .both .ensures) .paired _ (c .before .if2 .taken) (c .before .before .peek .ensures .among (c .before .if2 .taken))))
-
-put-byte-requires : tie.Need-put-byte-requires Inv-loop μ-loop
-put-byte-requires c κs = (omega (arith, c .before .before .before .before .before .before .before .before .before .before .before .before .before .before .pre .nexts, c .before .before .before .before .before .before .before .before .before .loop .inv .len), omega (arith, c .before .before .before .before .before .before .before .before .before .before .before .before .before .before .pre .nodes))
-
-put-byte-requires-2 : tie.Need-put-byte-requires-2 Inv-loop μ-loop
-put-byte-requires-2 c κs = (omega (arith, c .before .before .before .before .before .before .before .before .before .before .before .before .before .before .before .before .before .before .pre .nexts, c .before .before .before .before .before .before .before .before .before .before .before .before .before .loop .inv .len, c .before .before .before .put-byte .kept .0, choice-there (rw (c .before .before .before .before .before .before .byte .ensures .0) at (c .before .before .before .before .before .choice .ensures)) (c .before .before .before .before .before .before .before .before .peek .ensures .hears (c .before .before .before .before .before .before .before .if2 .taken))), omega (arith, c .before .before .before .before .before .before .byte .ensures .1))
-
-same-length-2 : tie.Need-same-length-2 Inv-loop μ-loop
-same-length-2 c = c .before .before .put-byte2 .kept .0 ∙ c .before .before .before .before .before .before .put-byte .kept .0 ∙ c .before .before .before .before .before .before .before .before .before .before .before .before .before .before .before .before .loop .inv .len
-
-returns-2 : tie.Need-returns-2 Inv-loop μ-loop
-returns-2 c = rw (c .before .before .put-byte2 .ensures, c .before .before .before .before .before .before .put-byte .ensures) (find-found (c .before .before .before .before .before .before .before .before .before .before .before .before .before .before .before .before .before .before .before .before .before .pre) (c .before .before .before .before .before .before .before .before .before .before .before .before .before .before .before .before .loop .inv) (c .before .before .before .before .before .before .before .before .before .before .before .before .before .before .before .first .ensures) (c .before .before .before .before .before .before .before .before .before .before .before .before .before .before .if1 .left) (c .before .before .before .before .before .before .before .before .before .before .before .before .before .set-at .ensures) (c .before .before .before .before .before .before .before .before .before .before .before .before .both .ensures) (c .before .before .before .before .before .before .before .before .before .before .before .peek .ensures) (c .before .before .before .before .before .before .before .before .before .before .if2 .taken) (c .before .before .before .before .before .before .before .before .before .byte .ensures .0) (c .before .before .before .before .before .before .before .before .choice .ensures) (choice-there (rw (c .before .before .before .before .before .before .before .before .before .byte .ensures .0) at (c .before .before .before .before .before .before .before .before .choice .ensures)) (c .before .before .before .before .before .before .before .before .before .before .before .peek .ensures .hears (c .before .before .before .before .before .before .before .before .before .before .if2 .taken))))
-
 minus-requires : tie.Need-minus-requires Inv-loop μ-loop
 minus-requires c κs = search needs
 
-without-requires : tie.Need-without-requires Inv-loop μ-loop
-without-requires c κs = omega (arith, c .before .before .before .before .before .before .before .before .before .before .before .before .before .pre .nodes)
-
 spread-requires : tie.Need-spread-requires Inv-loop μ-loop
-spread-requires c κs = ((c .before .before .before .before .before .before .before .before .before .before .before .before .before .before .pre .nodes, c .before .before .before .before .before .before .before .before .before .before .before .before .before .before .pre .lists, omega (arith, c .before .before .before .before .before .before .before .before .before .before .before .before .before .before .pre .nexts, c .before .before .before .before .before .before .before .before .before .loop .inv .len), c .before .before .before .before .before .before .before .if1 .left), find-settled (c .before .before .before .before .before .before .before .before .before .before .before .before .before .before .pre) (c .before .before .before .before .before .before .before .before .before .loop .inv) (c .before .before .before .before .before .before .before .before .first .ensures) (c .before .before .before .before .before .before .before .if1 .left) (c .before .before .before .before .before .before .set-at .ensures) (c .before .before .before .before .before .both .ensures))
+spread-requires c κs = find-spread (c .before .before .before .before .before .before .before .before .before .before .before .before .pre) (c .before .before .before .before .before .before .before .loop .inv) (c .before .before .before .before .before .before .first .ensures) (c .before .before .before .before .before .if1 .left) (c .before .before .before .set-at .ensures) (c .before .before .both .ensures)
+
+same-length-2 : tie.Need-same-length-2 Inv-loop μ-loop
+same-length-2 c = c .before .before .before .before .spread .kept .1 .1 .1 .0 ∙ c .before .before .before .before .before .before .before .before .before .before .before .before .loop .inv .len
+
+returns-2 : tie.Need-returns-2 Inv-loop μ-loop
+returns-2 c = find-found (c .before .before .before .before .before .before .before .before .before .before .before .before .before .before .before .before .before .pre) (c .before .before .before .before .before .before .before .before .before .before .before .before .loop .inv) (c .before .before .before .before .before .before .before .before .before .before .before .first .ensures) (c .before .before .before .before .before .before .before .before .before .before .if1 .left) (c .before .before .before .before .before .before .before .before .set-at .ensures) (c .before .before .before .before .before .before .before .both .ensures) (c .before .before .before .before .spread .ensures .met (c .if2 .taken)) (c .if2 .taken)
 
 loop-less : tie.Need-loop-less Inv-loop μ-loop
-loop-less c = find-falls (c .before .before .before .before .before .before .before .before .before .before .before .before .before .before .before .before .before .pre) (c .before .before .before .before .before .before .before .before .before .before .before .before .loop .inv) (c .before .before .before .before .before .before .before .before .before .before .before .first .ensures) (c .before .before .before .before .before .before .before .before .before .before .if1 .left) (c .before .before .before .before .before .before .before .before .before .set-at .ensures) (c .before .before .before .before .before .before .before .before .both .ensures) (c .before .before .before .before .before .minus .ensures) (c .before .before .before .without .ensures) (c .before .before .before .before .before .before .before .peek .ensures) (c .before .before .before .before .before .before .if2 .left) (c .before .before .spread .ensures) (c .before .before .spread .kept .1 .1 .0)
+loop-less c = find-falls (c .before .before .before .before .before .before .before .before .before .before .before .before .before .before .before .before .before .pre) (c .before .before .before .before .before .before .before .before .before .before .before .before .loop .inv) (c .before .before .before .before .before .before .before .before .before .before .before .first .ensures) (c .before .before .before .before .before .before .before .before .before .before .if1 .left) (c .before .before .before .before .before .before .before .before .set-at .ensures) (c .before .before .before .before .before .before .before .both .ensures) (c .before .before .before .before .before .before .minus .ensures) (c .before .before .before .before .before .before .before .before .before .without .ensures) (c .before .before .before .before .spread .ensures .none (c .if2 .left)) (c .before .before .before .before .spread .kept .1 .1 .1 .0)
 
 loop-again : tie.Need-loop-again Inv-loop μ-loop
-loop-again c = find-step (c .before .before .before .before .before .before .before .before .before .before .before .before .before .before .before .before .before .pre) (c .before .before .before .before .before .before .before .before .before .before .before .before .loop .inv) (c .before .before .before .before .before .before .before .before .before .before .before .first .ensures) (c .before .before .before .before .before .before .before .before .before .before .if1 .left) (c .before .before .before .before .before .before .before .before .before .set-at .ensures) (c .before .before .before .before .before .before .before .before .both .ensures) (c .before .before .before .before .before .minus .ensures) (c .before .before .before .without .ensures) (c .before .before .before .before .before .before .before .peek .ensures) (c .before .before .before .before .before .before .if2 .left) (c .before .before .spread .ensures) (c .before .before .spread .kept .1 .1 .0)
+loop-again c = find-step (c .before .before .before .before .before .before .before .before .before .before .before .before .before .before .before .before .before .pre) (c .before .before .before .before .before .before .before .before .before .before .before .before .loop .inv) (c .before .before .before .before .before .before .before .before .before .before .before .first .ensures) (c .before .before .before .before .before .before .before .before .before .before .if1 .left) (c .before .before .before .before .before .before .before .before .set-at .ensures) (c .before .before .before .before .before .before .before .both .ensures) (c .before .before .before .before .before .before .minus .ensures) (c .before .before .before .before .before .before .before .before .before .without .ensures) (c .before .before .before .before .spread .ensures .none (c .if2 .left)) (c .before .before .before .before .spread .kept .1 .1 .1 .0)
 
 pub search-spec : {M : Type 1} → statement M
 search-spec =
@@ -83,17 +67,12 @@ search-spec =
     first-requires
     same-length
     returns
+    without-requires
     set-at-requires
     both-requires
-    peek-requires
-    byte-requires
-    choice-requires
-    put-byte-requires
-    put-byte-requires-2
+    minus-requires
+    spread-requires
     same-length-2
     returns-2
-    minus-requires
-    without-requires
-    spread-requires
     loop-less
     loop-again)
