@@ -1,3 +1,4 @@
--- The laws of placing: levels and rounds.
+-- The laws of placing: halves of sets, levels and rounds.
+pub mod HalfLaws
 pub mod LevelLaws
 pub mod RoundLaws
