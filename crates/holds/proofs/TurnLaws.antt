@@ -10,20 +10,39 @@ use Rattle.sums.specs.Sums.{hit}
 use Rattle.sums.specs.Tables.{cell}
 use Rattle.sums.proofs.Sums.{sum-two, hit-same, hit-other}
 use Rattle.sums.proofs.Cases.{by-eq, by-lt}
-use Rattle.star.specs.Tables.{Square}
 use Rattle.star.proofs.LineLaws.{row-sum, column-sum}
-use Rattle.nodes.specs.Sets.{First}
+use Rattle.arrays.specs.Arrays.{Filled}
 use Rattle.cells.specs.Cells.{paddedIn, keptIn}
 use Rattle.pairs.specs.declared.free.Free.{Free}
-use Rattle.pairs.specs.Pairs.{allowed, taken, Rooms, CanMatch, Matched, Full, Stuck}
+use Rattle.pairs.specs.Pairs.{allowed, taken, Paired, CanMatch, Matched, Stuck}
 use Rattle.pairs.proofs.Counts.{never-stuck, taken-all}
 use Rattle.holds.specs.declared.turns.Turn.{Turn}
 use Rattle.holds.specs.Levels.{Level}
 use Rattle.holds.specs.Holds.{CanHear, Hears, Takes, Next}
 use Rattle.holds.specs.Turns.{Standing, Even, CanPair, Ready, CanTake, Parted, CanTurn, Turned}
-use Rattle.holds.proofs.LevelLaws.{lower-paired}
 use Rattle.holds.proofs.HearLaws.{lasting-idle, lasting-due, heard-idle, heard-due}
 use Rattle.holds.proofs.TakeLaws.{line-less}
+
+-- ---- pairs at a lower level
+pub lower-paired : {n : ℕ} {padded may may' source destination : List ℕ} {level level' : ℕ} → Level n padded may level → Level n padded may' level' → level' ≤ level
+    → Paired n may source destination → Paired n may' source destination
+unfolding allowed
+lower-paired {source = source} a b le p = record {
+  source-most = p .source-most;
+  destination-most = p .destination-most;
+  back = p .back;
+  forth = p .forth;
+  allows = λ j hj lt. b .all j hj .in' (getD source j 0) lt (omega (arith, a .all j hj .out (getD source j 0) lt (p .allows j hj lt)));
+}
+
+pub none-paired : {n : ℕ} {source destination : List ℕ} (may : List ℕ) → Filled n source n → Filled n destination n → Paired n may source destination
+none-paired may s d = record {
+  source-most = λ j hj. omega (arith, s .all j hj);
+  destination-most = λ i hi. omega (arith, d .all i hi);
+  back = λ j hj lt. absurd (omega (arith, s .all j hj));
+  forth = λ i hi lt. absurd (omega (arith, d .all i hi));
+  allows = λ j hj lt. absurd (omega (arith, s .all j hj));
+}
 
 -- ---- all are paired, where need be at a lower level
 pub record Seeking (n : ℕ) (table may0 source0 destination0 may source destination : List ℕ) (level held held0 : ℕ) (free : Free) : Type 0 where

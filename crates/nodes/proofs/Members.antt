@@ -3,15 +3,14 @@ use mathlib.Core.Path.{_≡_, refl, sym, ap, _∙_}
 use mathlib.Core.Logic.{_⊎_, ⊎-elim, inl, inr}
 use Prim.Native.Nat.{ℕ, zero, suc, _+_, _-_, _*_, _/_, _%_, _^_, _<_, min, max}
 use native.Mathlib.Omega.{arith}
-use native.Mathlib.Nat.{mod-lt, zero-lt-suc, pow-succ'}
+use native.Mathlib.Nat.{mod-lt, zero-lt-suc, pow-succ', add-zero, add-suc, mul-one}
 use mathlib.Core.Bool.{Bool, true, false, false≢true}
-use mir.Val.{boolByte}
 use lib.Arith.{digits-div, digits-mod}
 use lib.Bits.{bitAnd, bitOr, bitXor, differ, and-step, or-step, xor-step, shifted-half, shifted-even}
 use lib.Pow.{shl-exact, pow-pos}
 use lib.Count.{trailingZeros, under, trailing-le}
 use Rattle.sums.proofs.Cases.{by-eq}
-use Rattle.nodes.specs.Sets.{member, With, WithWhere, Without, First}
+use Rattle.nodes.specs.Sets.{member, With, WithWhere, Without, First, Joined}
 
 bit-case : (x : ℕ) → x < 2 → (x ≡ 0) ⊎ (x ≡ 1)
 bit-case x h = by-eq x 0 (λ e. inl e) (λ ne. inr (omega arith))
@@ -83,33 +82,29 @@ one-else zero (suc j) ne = shifted-even 1 j
 one-else (suc i) zero ne = member-none i
 one-else (suc i) (suc j) ne = ap (member i) (shifted-half 1 j) ∙ one-else i j (λ e. ne (ap suc e))
 
--- as the machine shifts
-one-is : (i : ℕ) → i < 64 → (1 * 2 ^ i) % 2 ^ 64 ≡ 1 * 2 ^ i
-one-is i h = shl-exact {a = 1} 1 i 64 (omega arith) (omega arith)
+-- as a machine of w digits shifts
+one-is : (w i : ℕ) → i < w → (1 * 2 ^ i) % 2 ^ w ≡ 1 * 2 ^ i
+one-is w i h = shl-exact {a = 1} 1 i w (omega arith) (omega arith)
 
-pub with-law : (s i : ℕ) → i < 64 → With s i (bitOr s ((1 * 2 ^ i) % 2 ^ 64))
-with-law s i h =
-    let on : member i ((1 * 2 ^ i) % 2 ^ 64) ≡ 1 = ap (member i) (one-is i h) ∙ one-here i in
+pub with-law : (w s i : ℕ) → i < w → With s i (bitOr s ((1 * 2 ^ i) % 2 ^ w))
+with-law w s i h =
+    let on : member i ((1 * 2 ^ i) % 2 ^ w) ≡ 1 = ap (member i) (one-is w i h) ∙ one-here i in
     record {
       here =
-          let q : member i (bitOr s ((1 * 2 ^ i) % 2 ^ 64)) + member i s * 1 ≡ member i s + 1 = rw on at (or-member i s ((1 * 2 ^ i) % 2 ^ 64)) in
+          let q : member i (bitOr s ((1 * 2 ^ i) % 2 ^ w)) + member i s * 1 ≡ member i s + 1 = rw on at (or-member i s ((1 * 2 ^ i) % 2 ^ w)) in
           omega arith;
       other = λ j ne.
-          let off : member j ((1 * 2 ^ i) % 2 ^ 64) ≡ 0 = ap (member j) (one-is i h) ∙ one-else j i ne in
-          let q : member j (bitOr s ((1 * 2 ^ i) % 2 ^ 64)) + member j s * 0 ≡ member j s + 0 = rw off at (or-member j s ((1 * 2 ^ i) % 2 ^ 64)) in
+          let off : member j ((1 * 2 ^ i) % 2 ^ w) ≡ 0 = ap (member j) (one-is w i h) ∙ one-else j i ne in
+          let q : member j (bitOr s ((1 * 2 ^ i) % 2 ^ w)) + member j s * 0 ≡ member j s + 0 = rw off at (or-member j s ((1 * 2 ^ i) % 2 ^ w)) in
           omega arith;
     }
 
-pub with-where-law : (s i : ℕ) (test : Bool) → i < 64 → WithWhere s i test (bitOr s ((boolByte test * 2 ^ i) % 2 ^ 64))
-with-where-law s i true h = let w = with-law s i h in record { added = λ e. w .here; left = λ e. absurd (false≢true (sym e)); other = w .other }
-with-where-law s i false h =
-    let none : (0 * 2 ^ i) % 2 ^ 64 ≡ 0 = omega arith in
-    let same : (j : ℕ) → member j (bitOr s ((0 * 2 ^ i) % 2 ^ 64)) ≡ member j s =
-    λ j.
-    let off : member j ((0 * 2 ^ i) % 2 ^ 64) ≡ 0 = ap (member j) none ∙ member-none j in
-    let q : member j (bitOr s ((0 * 2 ^ i) % 2 ^ 64)) + member j s * 0 ≡ member j s + 0 = rw off at (or-member j s ((0 * 2 ^ i) % 2 ^ 64)) in
-    omega arith in
-    record { added = λ e. absurd (false≢true e); left = λ e. same i; other = λ j ne. same j }
+-- where the test holds, and where it does not
+pub with-where-added : {s i r : ℕ} {test : Bool} → test ≡ true → With s i r → WithWhere s i test r
+with-where-added t w = record { added = λ e. w .here; left = λ e. absurd (false≢true (sym e ∙ t)); other = w .other }
+
+pub with-where-left : {s i : ℕ} {test : Bool} → test ≡ false → WithWhere s i test s
+with-where-left t = record { added = λ e. absurd (false≢true (sym t ∙ e)); left = λ e. refl; other = λ j ne. refl }
 
 pub minus-law : (s t j : ℕ) → member j (bitXor s (bitAnd s t)) + member j s * member j t ≡ member j s
 minus-law s t j =
@@ -121,11 +116,11 @@ minus-law s t j =
 
 pub without-law : (s i : ℕ) → i < 64 → Without s i (bitXor s (bitAnd s ((1 * 2 ^ i) % 2 ^ 64)))
 without-law s i h =
-    let on : member i ((1 * 2 ^ i) % 2 ^ 64) ≡ 1 = ap (member i) (one-is i h) ∙ one-here i in
+    let on : member i ((1 * 2 ^ i) % 2 ^ 64) ≡ 1 = ap (member i) (one-is 64 i h) ∙ one-here i in
     record {
       here = omega (arith, rw on at (minus-law s ((1 * 2 ^ i) % 2 ^ 64) i));
       other = λ j ne.
-          let off : member j ((1 * 2 ^ i) % 2 ^ 64) ≡ 0 = ap (member j) (one-is i h) ∙ one-else j i ne in
+          let off : member j ((1 * 2 ^ i) % 2 ^ 64) ≡ 0 = ap (member j) (one-is 64 i h) ∙ one-else j i ne in
           omega (arith, rw off at (minus-law s ((1 * 2 ^ i) % 2 ^ 64) j));
     }
 
@@ -171,3 +166,38 @@ member-all (suc k) (suc i) lt =
     let q : 0 < 2 ^ k = pow-pos k in
     let e : (2 ^ suc k - 1) / 2 ≡ 2 ^ k - 1 = omega arith in
     ap (member i) e ∙ member-all k i (omega arith)
+
+-- two halves: the high one is shifted past the nodes of the low one
+shifted-below : (k i s : ℕ) → i < k → member i (s * 2 ^ k) ≡ 0
+unfolding member
+shifted-below zero i s lt = absurd (omega arith)
+shifted-below (suc k) zero s lt = shifted-even s k
+shifted-below (suc k) (suc i) s lt = ap (member i) (shifted-half s k) ∙ shifted-below k i s (omega arith)
+
+shifted-above : (k i s : ℕ) → member (i + k) (s * 2 ^ k) ≡ member i s
+unfolding member
+shifted-above zero i s = rw (add-zero i, mul-one s) refl
+shifted-above (suc k) i s = rw (add-suc i k) (ap (member (i + k)) (shifted-half s k) ∙ shifted-above k i s)
+
+small-above : (k i s : ℕ) → s < 2 ^ k → member (i + k) s ≡ 0
+unfolding member
+small-above zero i s lt =
+    let e : s ≡ 0 = omega arith in
+    rw (add-zero i) (ap (member i) e ∙ member-none i)
+small-above (suc k) i s lt =
+    let p : 2 ^ suc k ≡ 2 * 2 ^ k = pow-succ' 2 k in
+    rw (add-suc i k) (small-above k i (s / 2) (omega arith))
+
+pub joined-law : (low high : ℕ) → low < 2 ^ 32 → high < 2 ^ 32 → Joined low high (bitOr low ((high * 2 ^ 32) % 2 ^ 64))
+joined-law low high hl hh =
+    let e : (high * 2 ^ 32) % 2 ^ 64 ≡ high * 2 ^ 32 = shl-exact 32 32 64 hh (omega arith) in
+    rw e (record {
+      lower = λ i lt.
+          let off : member i (high * 2 ^ 32) ≡ 0 = shifted-below 32 i high lt in
+          let q : member i (bitOr low (high * 2 ^ 32)) + member i low * 0 ≡ member i low + 0 = rw off at (or-member i low (high * 2 ^ 32)) in
+          omega arith;
+      upper = λ i.
+          let off : member (i + 32) low ≡ 0 = small-above 32 i low hl in
+          let q : member (i + 32) (bitOr low (high * 2 ^ 32)) + 0 * member (i + 32) (high * 2 ^ 32) ≡ 0 + member (i + 32) (high * 2 ^ 32) = rw off at (or-member (i + 32) low (high * 2 ^ 32)) in
+          omega (arith, q, shifted-above 32 i high);
+    })

@@ -43,3 +43,8 @@ pub record First (s r : ℕ) : Type 0 where
   pub within : r ≤ 64
   pub found : r < 64 → member r s ≡ 1
   pub before : (j : ℕ) → j < r → member j s ≡ 0
+
+-- the nodes of the low half, and those of the high half 32 higher
+pub record Joined (low high r : ℕ) : Type 0 where
+  pub lower : (i : ℕ) → i < 32 → member i r ≡ member i low
+  pub upper : (i : ℕ) → member (i + 32) r ≡ member i high

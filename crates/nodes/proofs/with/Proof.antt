@@ -8,7 +8,7 @@ shl-result : tie.Need-shl-result
 shl-result c = search needs
 
 returns : tie.Need-returns
-returns c = with-law _ _ (c .pre)
+returns c = with-law 64 _ _ (c .pre)
 
 pub with-spec : {M : Type 1} → statement M
 with-spec = tie.close (tie.spec shl-result returns)

@@ -1,53 +1,54 @@
--- `holds::levels::allow` meets its contract: the sets are right for the sources passed. Assumes nothing.
-use Prim.Native.Nat.{_-_}
+-- `holds::levels::allow` meets its contract: two halves of zeros take the sources below 32 and the others, and are joined. Assumes nothing.
+use Prim.Native.Nat.{min}
 use native.Mathlib.Omega.{arith}
-use mathlib.Core.Path.{_∙_}
-use Rattle.cells.specs.Cells.{paddedIn}
-use Rattle.holds.proofs.LevelLaws.{Allowing, allow-start, allow-step, allow-end}
+use mathlib.Core.Logic.{⊎-elim}
+use mathlib.Core.Path.{_≡_}
+use borrow.Author.Needs.{needs}
+use Rattle.holds.proofs.HalfLaws.{fresh-allow, halves-level}
 use Rattle.holds.proofs.levels.allow.Statement.{statement}
 use Rattle.holds.proofs.levels.allow.Tie as tie
 
-abbrev Inv-loop : tie.InvT-loop
-Inv-loop n table level may₀ i₀ may i = Allowing n (paddedIn table) level may₀ may i
+-- where the halves meet
+middle-is : (c : tie.Joined1) → c .if1 .middle ≡ min (c .before .before .before .args .n) 32
+middle-is c = ⊎-elim (λ w. omega (arith, w .0 .taken, w .1)) (λ w. omega (arith, w .0 .left, w .1)) (c .if1 .came)
 
-abbrev μ-loop : tie.MeasureT-loop
-μ-loop n table level may₀ i₀ may i = n - i
+slice-aggregate-allow-rows : tie.Need-slice-aggregate-allow-rows
+slice-aggregate-allow-rows c = search needs
 
-allow-none-requires : tie.Need-allow-none-requires Inv-loop μ-loop
-allow-none-requires c κs = (c .before .before .before .pre .0 .nodes, c .before .before .before .pre .1)
+allow-rows-requires : tie.Need-allow-rows-requires
+allow-rows-requires c κs = (c .before .before .before .before .pre .0, fresh-allow (c .before .before .before .before .pre .0 .nodes) (omega arith) (omega (arith, middle-is (c .before))) (omega (arith, middle-is (c .before))))
 
-loop-holds : tie.Need-loop-holds Inv-loop μ-loop
-loop-holds c = allow-start _ _ (c .before .before .allow-none .ensures)
+slice-aggregate-allow-rows-2 : tie.Need-slice-aggregate-allow-rows-2
+slice-aggregate-allow-rows-2 c = search needs
 
-allow-row-requires : tie.Need-allow-row-requires Inv-loop μ-loop
-allow-row-requires c κs = (c .before .before .before .before .before .before .before .before .before .pre .0, omega (arith, c .before .before .before .before .before .before .before .before .before .pre .1, c .before .before .before .before .before .allow-none .kept .1 .0, c .before .before .loop .inv .len), c .before .loop-test .taken)
+allow-rows-requires-2 : tie.Need-allow-rows-requires-2
+allow-rows-requires-2 c κs = (c .before .before .before .before .before .before .before .pre .0, fresh-allow (c .before .before .before .before .before .before .before .pre .0 .nodes) (omega (arith, middle-is (c .before .before .before .before))) (omega arith) (omega (arith, middle-is (c .before .before .before .before), c .before .before .before .before .before .before .before .pre .0 .nodes)))
 
-add-i : tie.Need-add-i Inv-loop μ-loop
-add-i c = omega (arith, c .before .before .before .before .before .before .before .before .before .before .before .before .pre .0 .nodes)
+slice-aggregate-join : tie.Need-slice-aggregate-join
+slice-aggregate-join c = search needs
 
-loop-less : tie.Need-loop-less Inv-loop μ-loop
-loop-less c = omega arith
+slice-aggregate-join-2 : tie.Need-slice-aggregate-join-2
+slice-aggregate-join-2 c = search needs
 
-loop-again : tie.Need-loop-again Inv-loop μ-loop
-loop-again c = allow-step (c .before .before .before .before .before .loop .inv) (c .before .before .before .before .loop-test .taken) (c .before .before .allow-row .kept .1 .1 .1 .0) (c .before .before .allow-row .ensures)
+join-requires : tie.Need-join-requires
+join-requires c κs = search needs
 
-same-length : tie.Need-same-length Inv-loop μ-loop
-same-length c = c .before .loop .inv .len ∙ c .before .before .before .before .allow-none .kept .1 .0
+same-length : tie.Need-same-length
+same-length c = search needs
 
-returns : tie.Need-returns Inv-loop μ-loop
-returns c = allow-end (c .before .loop .inv) (c .loop-test .left)
+returns : tie.Need-returns
+returns c = halves-level (middle-is (c .before .before .before .before .before .before .before .before .before .before .before .before)) (c .before .before .before .before .before .before .before .before .before .before .allow-rows .ensures) (c .before .before .before .before .before .before .before .allow-rows2 .ensures) (c .before .before .join .ensures)
 
 pub allow-spec : {M : Type 1} → statement M
 allow-spec =
     tie.close
     (tie.spec
-    Inv-loop
-    μ-loop
-    allow-none-requires
-    loop-holds
-    allow-row-requires
-    add-i
-    loop-less
-    loop-again
+    slice-aggregate-allow-rows
+    allow-rows-requires
+    slice-aggregate-allow-rows-2
+    allow-rows-requires-2
+    slice-aggregate-join
+    slice-aggregate-join-2
+    join-requires
     same-length
     returns)

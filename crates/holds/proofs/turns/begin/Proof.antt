@@ -2,7 +2,7 @@
 use native.Mathlib.Omega.{arith}
 use mathlib.Core.Path.{refl}
 use borrow.Author.Needs.{needs}
-use Rattle.holds.proofs.LevelLaws.{none-paired}
+use Rattle.holds.proofs.TurnLaws.{none-paired}
 use Rattle.pairs.proofs.Matches.{all-free}
 use Rattle.holds.proofs.turns.begin.Statement.{statement}
 use Rattle.holds.proofs.turns.begin.Tie as tie
