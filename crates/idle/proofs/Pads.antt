@@ -3,7 +3,7 @@
 use mathlib.Core.Path.{_≡_, refl, sym, ap, _∙_}
 use mathlib.Core.Logic.{_⊎_, ⊎-elim, inl, inr}
 use mathlib.Core.List.{List}
-use Prim.Native.Nat.{ℕ, _+_, _-_, _*_, _≤_, _<_, min}
+use Prim.Native.Nat.{ℕ, _+_, _-_, _*_, _≤_, _<_, min, max}
 use native.Mathlib.Omega.{arith}
 use borrow.Author.Count.{below-more}
 use lib.ListN.{length, getD, set, length-set}
@@ -15,12 +15,12 @@ use Rattle.sums.proofs.Cases.{by-eq, by-lt}
 use Rattle.sums.proofs.Fills.{set-more}
 use Rattle.sums.proofs.Tables.{cell-lt, set-here, set-row, set-col}
 use Rattle.star.specs.Tables.{Square, Demands}
-use Rattle.star.specs.Lines.{lineSum}
+use Rattle.star.specs.Lines.{lineSum, Summed}
 use Rattle.star.proofs.LineLaws.{total-rows, total-columns, line-ext, cell-in-row}
 use Rattle.arrays.proofs.Stores.{square-kept}
 use Rattle.cells.specs.Cells.{paddedIn, keptIn, Gave}
 use Rattle.cells.proofs.CellLaws.{padded-at, kept-at, padded-length}
-use Rattle.idle.specs.Idle.{Small, Loaded, LineSums, Largest, Lacking, Lacks, CanPad, Fuller, PaddedAt, PaddedRow, PaddedAll, CanFill, Padded}
+use Rattle.idle.specs.Idle.{Small, Loaded, Largest, Lacking, Lacks, CanPad, Fuller, PaddedAt, PaddedRow, PaddedAll, CanFill, Padded}
 use Rattle.idle.proofs.LineStores.{place-row-sum, line-more}
 
 -- small line sums are sums of demands
@@ -58,31 +58,17 @@ load-end {n = n} {kept = kept} {table = table} small g le =
       keeps = λ i j hi hj. kept-at table (i * n + j) ∙ omega (arith, at i j hi hj, low i j hi hj);
     }
 
--- ---- the sums of the lines below m
-pub record Summing (n : ℕ) (kept sums0 sums : List ℕ) (m : ℕ) : Type 0 where
-  pub within : m ≤ 2 * n
-  pub len : length sums ≡ length sums0
-  pub all : (ℓ : ℕ) → ℓ < m → getD sums ℓ 0 ≡ lineSum n kept ℓ
-
-pub sums-step : {n : ℕ} {kept sums0 sums : List ℕ} {m b : ℕ} → 2 * n ≤ length sums0 → Summing n kept sums0 sums m → m < 2 * n → b ≡ lineSum n kept m → Summing n kept sums0 (set sums m b) (m + 1)
-sums-step {n = n} {kept = kept} {sums = sums} {m = m} {b = b} fits g lt e = record {
-  within = omega arith;
-  len = length-set sums m b ∙ g .len;
-  all = set-more (lineSum n kept) sums m b (omega (arith, g .len)) e (g .all);
-}
-
 -- ---- the largest of the sums below m
 pub record Topping (n : ℕ) (sums : List ℕ) (most m : ℕ) : Type 0 where
   pub within : m ≤ 2 * n
   pub above : (ℓ : ℕ) → ℓ < m → getD sums ℓ 0 ≤ most
   pub least : (b : ℕ) → ((ℓ : ℕ) → ℓ < 2 * n → getD sums ℓ 0 ≤ b) → most ≤ b
 
-pub top-step : {n : ℕ} {sums : List ℕ} {most m : ℕ} (most' : ℕ) → Topping n sums most m → m < 2 * n → most ≤ most' → getD sums m 0 ≤ most'
-    → ((b : ℕ) → most ≤ b → getD sums m 0 ≤ b → most' ≤ b) → Topping n sums most' (m + 1)
-top-step {sums = sums} {m = m} most' g lt up here low = record {
+pub top-step : {n : ℕ} {sums : List ℕ} {most m : ℕ} {most' : ℕ} → Topping n sums most m → m < 2 * n → most' ≡ max most (getD sums m 0) → Topping n sums most' (m + 1)
+top-step {sums = sums} {most = most} {m = m} {most' = most'} g lt e = record {
   within = omega arith;
-  above = below-more (λ (ℓ : ℕ). getD sums ℓ 0 ≤ most') m (λ ℓ h. omega (arith, g .above ℓ h)) here;
-  least = λ b all. low b (g .least b all) (all m lt);
+  above = below-more (λ (ℓ : ℕ). getD sums ℓ 0 ≤ most') m (λ ℓ h. omega (arith, g .above ℓ h)) (omega arith);
+  least = λ b all. omega (arith, g .least b all, all m lt);
 }
 
 -- ---- what the lines below m lack, in place of their sums
@@ -320,13 +306,13 @@ spare-step lt g ev el f = record {
 }
 
 -- ---- the whole
-pub most-small : {n : ℕ} {kept sums : List ℕ} {r : ℕ} → Small n kept → LineSums n kept sums → Largest n sums r → r ≤ 1024
-most-small small s t = t .least 1024 (λ ℓ h. omega (arith, s .all ℓ h, small .lines ℓ h))
+most-small : {n : ℕ} {kept sums : List ℕ} {r : ℕ} → Small n kept → Summed n kept sums → Largest n sums r → r ≤ 1024
+most-small small s t = t .least 1024 (λ ℓ h. omega (arith, s .lines ℓ h, small .lines ℓ h))
 
 -- v is the loaded table, and w the same with idle slots at pairs that keep nothing
-module _ {n : ℕ} {kept v sums : List ℕ} {r : ℕ} (c : Loaded n kept v) (s : LineSums n kept sums) (t : Largest n sums r) {lack : List ℕ} (k : Lacking n sums lack r) where
-  pub lacks-of : Lacks n v lack r
-  lacks-of = record { lines = λ ℓ h. omega (arith, k .all ℓ h, s .all ℓ h, line-ext n (paddedIn v) kept (c .padded) ℓ h) }
+module _ {n : ℕ} {kept v sums : List ℕ} {r : ℕ} (c : Loaded n kept v) (s : Summed n kept sums) (t : Largest n sums r) {lack : List ℕ} (k : Lacking n sums lack r) where
+  lacks-of : Lacks n v lack r
+  lacks-of = record { lines = λ ℓ h. omega (arith, k .all ℓ h, s .lines ℓ h, line-ext n (paddedIn v) kept (c .padded) ℓ h) }
 
   pub loaded-can : CanFill n kept → length v ≡ length kept → 2 * n ≤ length lack → CanPad n v lack
   loaded-can f e le = record { square = square-kept kept v e (f .square); lines = le; r = r; small = most-small (f .small) s t; lacks = lacks-of }
@@ -336,5 +322,5 @@ module _ {n : ℕ} {kept v sums : List ℕ} {r : ℕ} (c : Loaded n kept v) (s :
     lines = p .lines r (f .keeps r lacks-of);
     cells = λ i j hi hj. omega (arith, f .cells i j hi hj, p .cells i j hi hj, c .padded i j hi hj);
     keeps = λ i j hi hj. ap (λ (x : List ℕ). cell n x i j) (p .kept ∙ f .kept) ∙ c .keeps i j hi hj;
-    least = λ b h. t .least b (λ ℓ hl. omega (arith, s .all ℓ hl, h ℓ hl));
+    least = λ b h. t .least b (λ ℓ hl. omega (arith, s .lines ℓ hl, h ℓ hl));
   }

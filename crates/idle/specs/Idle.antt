@@ -18,9 +18,6 @@ pub record Loaded (n : ℕ) (kept table : List ℕ) : Type 0 where
   pub padded : (i j : ℕ) → i < n → j < n → cell n (paddedIn table) i j ≡ cell n kept i j
   pub keeps : (i j : ℕ) → i < n → j < n → cell n (keptIn table) i j ≡ cell n kept i j
 
-pub record LineSums (n : ℕ) (kept sums : List ℕ) : Type 0 where
-  pub all : (ℓ : ℕ) → ℓ < 2 * n → getD sums ℓ 0 ≡ lineSum n kept ℓ
-
 -- no sum is above r, and r is no more than needed
 pub record Largest (n : ℕ) (sums : List ℕ) (r : ℕ) : Type 0 where
   pub above : (ℓ : ℕ) → ℓ < 2 * n → getD sums ℓ 0 ≤ r

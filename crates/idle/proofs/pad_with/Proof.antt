@@ -1,18 +1,18 @@
 -- `idle::pad_with` meets its contract: the steps one after the other: the sums, the largest, what is lacking, the load, and the padding. Assumes nothing.
 use native.Mathlib.Omega.{arith}
 use borrow.Author.Needs.{needs}
-use Rattle.idle.proofs.Pads.{can-kept, most-small, loaded-can, padded-of}
+use Rattle.idle.proofs.Pads.{small-demands, can-kept, loaded-can, padded-of}
 use Rattle.idle.proofs.pad_with.Statement.{statement}
 use Rattle.idle.proofs.pad_with.Tie as tie
 
 line-sums-requires : tie.Need-line-sums-requires
-line-sums-requires c κs = search needs
+line-sums-requires c κs = (c .before .before .before .before .pre .0 .square, (small-demands _ _ (c .before .before .before .before .pre .0 .small), c .before .before .before .before .pre .1))
 
 largest-requires : tie.Need-largest-requires
 largest-requires c κs = search needs
 
 lacks-requires : tie.Need-lacks-requires
-lacks-requires c κs = (c .before .before .before .before .before .before .before .before .before .before .pre .0 .square .nodes, omega (arith, c .before .before .before .before .before .before .before .before .before .before .pre .1, c .before .before .before .before .before .line-sums .kept .1 .1 .0), most-small (c .before .before .before .before .before .before .before .before .before .before .pre .0 .small) (c .before .before .before .before .before .line-sums .ensures) (c .before .largest .ensures), c .before .largest .ensures)
+lacks-requires c κs = search needs
 
 load-requires : tie.Need-load-requires
 load-requires c κs = search needs
