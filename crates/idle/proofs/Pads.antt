@@ -18,9 +18,9 @@ use Rattle.star.specs.Tables.{Square, Demands}
 use Rattle.star.specs.Lines.{lineSum, Summed}
 use Rattle.star.proofs.LineLaws.{total-rows, total-columns, line-ext, cell-in-row}
 use Rattle.arrays.proofs.Stores.{square-kept}
-use Rattle.cells.specs.Cells.{paddedIn, keptIn, Gave}
+use Rattle.cells.specs.Cells.{paddedIn, Gave}
 use Rattle.cells.proofs.CellLaws.{padded-at, kept-at, padded-length}
-use Rattle.idle.specs.Idle.{Small, Loaded, Largest, Lacking, Lacks, CanPad, Fuller, PaddedAt, PaddedRow, PaddedAll, CanFill, Padded}
+use Rattle.idle.specs.Idle.{Small, Loaded, Largest, Lacking, Lacks, CanPad, Fuller, PaddedAt, PaddedAll, CanFill, Padded}
 use Rattle.idle.proofs.LineStores.{place-row-sum, line-more}
 
 -- small line sums are sums of demands
@@ -164,7 +164,7 @@ module _ {n : ℕ} {v lack : List ℕ} (c : CanPad n v lack) {i j : ℕ} (hi : i
             (λ le. inr (lack-column ∙ omega arith));
       }
 
--- ---- the pairs of a row, and all rows
+-- ---- one pair after the other
 fuller-none : (n : ℕ) (v lack : List ℕ) → Fuller n v lack v lack
 fuller-none n v lack = record { keeps = λ r l. l; lines = λ ℓ h. omega arith; cells = λ i j hi hj. omega arith; kept = refl }
 
@@ -177,67 +177,8 @@ fuller-more a b = record {
 }
 
 -- a line that lacks nothing goes on to lack nothing
-zero-kept : {n : ℕ} {v lack v' lack' : List ℕ} → Fuller n v lack v' lack' → (i j : ℕ) → i < n → j < n → (getD lack i 0 ≡ 0) ⊎ (getD lack (n + j) 0 ≡ 0) → (getD lack' i 0 ≡ 0) ⊎ (getD lack' (n + j) 0 ≡ 0)
-zero-kept {n = n} f i j hi hj z =
-    ⊎-elim (λ e. inl (omega (arith, f .lines i (omega arith)))) (λ e. inr (omega (arith, f .lines (n + j) (omega arith)))) z
-
-pub record RowPadding (n : ℕ) (v lack v' lack' : List ℕ) (i m : ℕ) : Type 0 where
-  pub within : m ≤ n
-  pub padded : PaddedRow n v lack v' lack' i m
-  pub table-len : length v' ≡ length v
-  pub lack-len : length lack' ≡ length lack
-
-pub row-start : (n : ℕ) (v lack : List ℕ) (i : ℕ) → RowPadding n v lack v lack i 0
-row-start n v lack i = record {
-  within = omega arith;
-  padded = record { fuller = fuller-none n v lack; none = λ j lt. absurd (omega arith) };
-  table-len = refl;
-  lack-len = refl;
-}
-
-pub row-can : {n : ℕ} {v lack v' lack' : List ℕ} {i m : ℕ} → CanPad n v lack → RowPadding n v lack v' lack' i m → CanPad n v' lack'
-row-can c g = can-kept (g .table-len) (g .lack-len) (g .padded .fuller) c
-
-pub row-step : {n : ℕ} {v lack v' lack' v'' lack'' : List ℕ} {i m : ℕ} → i < n → m < n → RowPadding n v lack v' lack' i m → length v'' ≡ length v' → length lack'' ≡ length lack'
-    → PaddedAt n v' lack' v'' lack'' i m → RowPadding n v lack v'' lack'' i (m + 1)
-row-step {n = n} {lack'' = lack''} {i = i} {m = m} hi hm g ev el p = record {
-  within = omega arith;
-  padded = record {
-    fuller = fuller-more (g .padded .fuller) (p .fuller);
-    none = below-more (λ (j : ℕ). (getD lack'' i 0 ≡ 0) ⊎ (getD lack'' (n + j) 0 ≡ 0)) m
-        (λ j hj. zero-kept (p .fuller) i j hi (omega arith) (g .padded .none j hj)) (p .none);
-  };
-  table-len = ev ∙ g .table-len;
-  lack-len = el ∙ g .lack-len;
-}
-
-pub row-end : {n : ℕ} {v lack v' lack' : List ℕ} {i m : ℕ} → RowPadding n v lack v' lack' i m → n ≤ m → PaddedRow n v lack v' lack' i n
-row-end g le = record { fuller = g .padded .fuller; none = λ j hj. g .padded .none j (omega arith) }
-
--- the rows below m are done
-pub record AllPadding (n : ℕ) (v lack v' lack' : List ℕ) (m : ℕ) : Type 0 where
-  pub within : m ≤ n
-  pub fuller : Fuller n v lack v' lack'
-  pub none : (i : ℕ) → i < m → (j : ℕ) → j < n → (getD lack' i 0 ≡ 0) ⊎ (getD lack' (n + j) 0 ≡ 0)
-  pub table-len : length v' ≡ length v
-  pub lack-len : length lack' ≡ length lack
-
-pub all-start : (n : ℕ) (v lack : List ℕ) → AllPadding n v lack v lack 0
-all-start n v lack = record { within = omega arith; fuller = fuller-none n v lack; none = λ i lt. absurd (omega arith); table-len = refl; lack-len = refl }
-
-pub all-can : {n : ℕ} {v lack v' lack' : List ℕ} {m : ℕ} → CanPad n v lack → AllPadding n v lack v' lack' m → CanPad n v' lack'
-all-can c g = can-kept (g .table-len) (g .lack-len) (g .fuller) c
-
-pub all-step : {n : ℕ} {v lack v' lack' v'' lack'' : List ℕ} {m : ℕ} → m < n → AllPadding n v lack v' lack' m → length v'' ≡ length v' → length lack'' ≡ length lack'
-    → PaddedRow n v' lack' v'' lack'' m n → AllPadding n v lack v'' lack'' (m + 1)
-all-step {n = n} {lack'' = lack''} {m = m} hm g ev el p = record {
-  within = omega arith;
-  fuller = fuller-more (g .fuller) (p .fuller);
-  none = below-more (λ (i : ℕ). (j : ℕ) → j < n → (getD lack'' i 0 ≡ 0) ⊎ (getD lack'' (n + j) 0 ≡ 0)) m
-      (λ i hi j hj. zero-kept (p .fuller) i j (omega arith) hj (g .none i hi j hj)) (p .none);
-  table-len = ev ∙ g .table-len;
-  lack-len = el ∙ g .lack-len;
-}
+none-kept : {n : ℕ} {v lack v' lack' : List ℕ} → Fuller n v lack v' lack' → (ℓ : ℕ) → ℓ < 2 * n → getD lack ℓ 0 ≡ 0 → getD lack' ℓ 0 ≡ 0
+none-kept f ℓ h e = omega (arith, f .lines ℓ h)
 
 -- ---- the end: rows and columns lack the same in all
 module _ {n : ℕ} {v lack : List ℕ} {r : ℕ} (l : Lacks n v lack r) (none : (i j : ℕ) → i < n → j < n → (getD lack i 0 ≡ 0) ⊎ (getD lack (n + j) 0 ≡ 0)) where
@@ -273,9 +214,70 @@ module _ {n : ℕ} {v lack : List ℕ} {r : ℕ} (l : Lacks n v lack r) (none : 
   pub full-lines : (ℓ : ℕ) → ℓ < 2 * n → lineSum n (paddedIn v) ℓ ≡ r
   full-lines ℓ hl = omega (arith, l .lines ℓ hl, no-lack ℓ hl)
 
-pub all-end : {n : ℕ} {v lack v' lack' : List ℕ} {m : ℕ} → AllPadding n v lack v' lack' m → n ≤ m → PaddedAll n v v' lack
-all-end g le = record {
-  lines = λ r l. full-lines (g .fuller .keeps r l) (λ i j hi hj. g .none i (omega arith) j hj);
+-- ---- down the stairs: the rows before i and the columns before j lack nothing
+pub record Stairs (n : ℕ) (v lack v' lack' : List ℕ) (i j : ℕ) : Type 0 where
+  pub row-within : i ≤ n
+  pub column-within : j ≤ n
+  pub fuller : Fuller n v lack v' lack'
+  pub rows : (a : ℕ) → a < i → getD lack' a 0 ≡ 0
+  pub columns : (b : ℕ) → b < j → getD lack' (n + b) 0 ≡ 0
+  pub table-len : length v' ≡ length v
+  pub lack-len : length lack' ≡ length lack
+
+pub stairs-start : (n : ℕ) (v lack : List ℕ) → Stairs n v lack v lack 0 0
+stairs-start n v lack = record {
+  row-within = omega arith;
+  column-within = omega arith;
+  fuller = fuller-none n v lack;
+  rows = λ a lt. absurd (omega arith);
+  columns = λ b lt. absurd (omega arith);
+  table-len = refl;
+  lack-len = refl;
+}
+
+pub stairs-can : {n : ℕ} {v lack v' lack' : List ℕ} {i j : ℕ} → CanPad n v lack → Stairs n v lack v' lack' i j → CanPad n v' lack'
+stairs-can c g = can-kept (g .table-len) (g .lack-len) (g .fuller) c
+
+-- a pair got its idle slots: its row lacks nothing and is left behind, or its column is
+module _ {n : ℕ} {v lack v' lack' v'' lack'' : List ℕ} {i j : ℕ} (hi : i < n) (hj : j < n) (g : Stairs n v lack v' lack' i j)
+    (ev : length v'' ≡ length v') (el : length lack'' ≡ length lack') (p : PaddedAt n v' lack' v'' lack'' i j) where
+  stair : Stairs n v lack v'' lack'' i j
+  stair = record {
+    row-within = g .row-within;
+    column-within = g .column-within;
+    fuller = fuller-more (g .fuller) (p .fuller);
+    rows = λ a lt. none-kept (p .fuller) a (omega arith) (g .rows a lt);
+    columns = λ b lt. none-kept (p .fuller) (n + b) (omega arith) (g .columns b lt);
+    table-len = ev ∙ g .table-len;
+    lack-len = el ∙ g .lack-len;
+  }
+
+  pub stair-down : getD lack'' i 0 ≡ 0 → Stairs n v lack v'' lack'' (i + 1) j
+  stair-down e = record {
+    row-within = omega arith;
+    column-within = stair .column-within;
+    fuller = stair .fuller;
+    rows = below-more (λ (a : ℕ). getD lack'' a 0 ≡ 0) i (stair .rows) e;
+    columns = stair .columns;
+    table-len = stair .table-len;
+    lack-len = stair .lack-len;
+  }
+
+  pub stair-right : (getD lack'' i 0 ≡ 0 → ⊥) → Stairs n v lack v'' lack'' i (j + 1)
+  stair-right ne = record {
+    row-within = stair .row-within;
+    column-within = omega arith;
+    fuller = stair .fuller;
+    rows = stair .rows;
+    columns = below-more (λ (b : ℕ). getD lack'' (n + b) 0 ≡ 0) j (stair .columns) (⊎-elim (λ e. absurd (ne e)) (λ e. e) (p .none));
+    table-len = stair .table-len;
+    lack-len = stair .lack-len;
+  }
+
+-- one side lacks nothing at all
+pub stairs-end : {n : ℕ} {v lack v' lack' : List ℕ} {i j : ℕ} → Stairs n v lack v' lack' i j → (n ≤ i) ⊎ (n ≤ j) → PaddedAll n v v' lack
+stairs-end {n = n} {i = i} {j = j} g side = record {
+  lines = λ r l. full-lines (g .fuller .keeps r l) (λ a b ha hb. ⊎-elim (λ (h : n ≤ i). inl (g .rows a (omega arith))) (λ (h : n ≤ j). inr (g .columns b (omega arith))) side);
   cells = g .fuller .cells;
   kept = g .fuller .kept;
 }

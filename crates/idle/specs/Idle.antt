@@ -48,11 +48,6 @@ pub record PaddedAt (n : ℕ) (x lack x' lack' : List ℕ) (i j : ℕ) : Type 0 
   pub fuller : Fuller n x lack x' lack'
   pub none : (getD lack' i 0 ≡ 0) ⊎ (getD lack' (n + j) 0 ≡ 0)
 
--- the first m pairs of source i are done
-pub record PaddedRow (n : ℕ) (x lack x' lack' : List ℕ) (i m : ℕ) : Type 0 where
-  pub fuller : Fuller n x lack x' lack'
-  pub none : (j : ℕ) → j < m → (getD lack' i 0 ≡ 0) ⊎ (getD lack' (n + j) 0 ≡ 0)
-
 -- no line lacks any more
 pub record PaddedAll (n : ℕ) (x x' lack : List ℕ) : Type 0 where
   pub lines : (r : ℕ) → Lacks n x lack r → (ℓ : ℕ) → ℓ < 2 * n → lineSum n (paddedIn x') ℓ ≡ r

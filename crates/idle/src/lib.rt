@@ -5,7 +5,7 @@ use star::numbers::smaller;
 ghost use Prim.Native.Nat.{_*_, _<_, _≤_};
 ghost use lib.ListN.{length};
 ghost use Rattle.star.specs.Tables.{Square};
-ghost use Rattle.idle.specs.Idle.{Small, Loaded, Largest, Lacking, CanPad, Fuller, PaddedAt, PaddedRow, PaddedAll, CanFill, Padded};
+ghost use Rattle.idle.specs.Idle.{Small, Loaded, Largest, Lacking, CanPad, Fuller, PaddedAt, PaddedAll, CanFill, Padded};
 
 // Every pair gets what it keeps.
 fn load(n: usize, table: &mut [u32])
@@ -68,7 +68,8 @@ fn after(n: usize, j: usize) -> usize
     if j + 1 < n { j + 1 } else { 0 }
 }
 
-// Gives idle slots to the pairs of source i that keep nothing, from destination i on: a pair that is idle only never changes by itself.
+// Gives idle slots to the pairs of source i that keep nothing, from destination i on, until the row lacks nothing: a pair that is idle only never
+// changes by itself.
 fn spare_row(n: usize, table: &mut [u32], lack: &mut [u32], i: usize)
     requires { ⌜ CanPad n (now table) (now lack) ⌝ }
     requires { ⌜ i < n ⌝ }
@@ -77,6 +78,9 @@ fn spare_row(n: usize, table: &mut [u32], lack: &mut [u32], i: usize)
     let mut j = i;
     let mut passed = 0;
     while passed < n {
+        if lack[i] == 0 {
+            return;
+        }
         if cells::kept(n, table, i, j) > 0 {
             j = after(n, j);
             passed += 1;
@@ -100,28 +104,23 @@ fn spare_all(n: usize, table: &mut [u32], lack: &mut [u32])
     }
 }
 
-// Gives the pairs of source i as many idle slots as their lines lack.
-fn pad_row(n: usize, table: &mut [u32], lack: &mut [u32], i: usize)
-    requires { ⌜ CanPad n (now table) (now lack) ⌝ }
-    requires { ⌜ i < n ⌝ }
-    ensures { λ _. ⌜ PaddedRow n (now (table .entry)) (now (lack .entry)) (now (table .exit)) (now (lack .exit)) i n ⌝ }
-{
-    let mut j = 0;
-    while j < n {
-        pad_at(n, table, lack, i, j);
-        j += 1;
-    }
-}
-
-// Gives all pairs as many idle slots as their lines lack.
-fn pad_all(n: usize, table: &mut [u32], lack: &mut [u32])
+// Gives what is still lacking down a staircase: after each pair its row or its column lacks nothing and is left behind.
+fn stairs(n: usize, table: &mut [u32], lack: &mut [u32])
     requires { ⌜ CanPad n (now table) (now lack) ⌝ }
     ensures { λ _. ⌜ PaddedAll n (now (table .entry)) (now (table .exit)) (now (lack .entry)) ⌝ }
 {
     let mut i = 0;
+    let mut j = 0;
     while i < n {
-        pad_row(n, table, lack, i);
-        i += 1;
+        if j >= n {
+            return;
+        }
+        pad_at(n, table, lack, i, j);
+        if lack[i] == 0 {
+            i += 1;
+            continue;
+        }
+        j += 1;
     }
 }
 
@@ -136,7 +135,7 @@ fn pad_with(n: usize, table: &mut [u32], lack: &mut [u32]) -> u32
     lacks(n, lack, r);
     load(n, table);
     spare_all(n, table, lack);
-    pad_all(n, table, lack);
+    stairs(n, table, lack);
     r
 }
 
