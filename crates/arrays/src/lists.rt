@@ -1,4 +1,4 @@
-// Lists: of bytes, which stand for nodes, of 16-bit numbers, and of sets of nodes.
+// Lists: of bytes, which stand for nodes, and of sets of nodes.
 ghost use mathlib.Core.Path.{_≡_};
 ghost use Prim.Native.Nat.{_<_, _≤_};
 ghost use lib.ListN.{length, getD, set};
@@ -30,22 +30,6 @@ pub fn fill(x: &mut [u8], n: usize, b: usize)
         put_byte(x, k, b);
         k += 1;
     }
-}
-
-// The number at k.
-pub fn number(x: &[u16], k: usize) -> u32
-    requires { ⌜ k < length (now x) ⌝ }
-    ensures { λ r. ⌜ r ≡ getD (now (x .entry)) k 0 ⌝ }
-{
-    x[k] as u32
-}
-
-// The number at k is b from now on.
-pub fn put_number(x: &mut [u16], k: usize, b: u32)
-    requires { ⌜ (k < length (now x)) × (b < 65536) ⌝ }
-    ensures { λ _. ⌜ now (x .exit) ≡ set (now (x .entry)) k b ⌝ }
-{
-    x[k] = b as u16;
 }
 
 // The set at k.

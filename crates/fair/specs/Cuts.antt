@@ -27,10 +27,6 @@ pub record Counted (n : ℕ) (s : Cutting) (a b : List ℕ) : Type 0 where
   pub unmodified : (ℓ : ℕ) → ℓ < 2 * n → getD a ℓ 0 ≡ unmodifiedSum n s ℓ
   pub modified : (ℓ : ℕ) → ℓ < 2 * n → getD b ℓ 0 ≡ modifiedSum n s ℓ
 
--- before any cut table a has each line's whole sum
-pub record Summed (n : ℕ) (demand a : List ℕ) : Type 0 where
-  pub lines : (ℓ : ℕ) → ℓ < 2 * n → getD a ℓ 0 ≡ lineSum n demand ℓ
-
 -- ---- the choice of the next line
 -- fractions can be compared in 32 bits: no sum is above 64 × 65,535, and no b above its line's capacity
 pub record Comparable (n : ℕ) (cap a b : List ℕ) : Type 0 where

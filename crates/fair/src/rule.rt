@@ -1,29 +1,13 @@
 // The fair rule on a table of demands.
 use crate::choice::next_line;
 use crate::line::cut_line;
-use star::lines::line_sum;
+use star::lines::line_sums;
 use star::tables::copy;
 ghost use mathlib.Core.Path.{_≡_};
-ghost use Prim.Native.Nat.{_*_, _<_, _≤_};
-ghost use lib.ListN.{length};
+ghost use Prim.Native.Nat.{_*_};
 ghost use Rattle.sums.specs.Tables.{written};
-ghost use Rattle.star.specs.Tables.{Square, Demands};
 ghost use Rattle.fair.specs.Fair.{fairKept};
-ghost use Rattle.fair.specs.Cuts.{CanCut, CanCutExactly, CanCutAll, Summed};
-
-// The sum of each line.
-fn line_sums(n: usize, demand: &[u32], sums: &mut [u32])
-    requires { ⌜ Square n (now demand) ⌝ }
-    requires { ⌜ Demands n (now demand) ⌝ }
-    requires { ⌜ 2 * n ≤ length (now sums) ⌝ }
-    ensures { λ _. ⌜ Summed n (now (demand .entry)) (now (sums .exit)) ⌝ }
-{
-    let mut line = 0;
-    while line < 2 * n {
-        sums[line] = line_sum(n, demand, line);
-        line += 1;
-    }
-}
+ghost use Rattle.fair.specs.Cuts.{CanCut, CanCutExactly, CanCutAll};
 
 // One line after the other is cut, until none is above its capacity. No line is cut twice, so 2n steps are enough.
 fn cut_all(n: usize, cap: &[u32], kept: &mut [u32], done: &mut [u8], a: &mut [u32], b: &mut [u32])

@@ -3,7 +3,7 @@
 use mathlib.Core.Path.{_≡_, refl, sym, ap, _∙_}
 use mathlib.Core.Logic.{_⊎_, ⊎-elim, inl, inr}
 use mathlib.Core.List.{List}
-use Prim.Native.Nat.{ℕ, _+_, _-_, _*_, _≤_, _<_, min}
+use Prim.Native.Nat.{ℕ, _+_, _-_, _*_, _≤_, _<_, min, max}
 use native.Mathlib.Omega.{arith}
 use borrow.Author.Count.{below-more}
 use lib.ListN.{length, getD, set, length-set}
@@ -15,12 +15,12 @@ use Rattle.sums.proofs.Cases.{by-eq, by-lt}
 use Rattle.sums.proofs.Fills.{set-more}
 use Rattle.sums.proofs.Tables.{cell-lt, set-here, set-row, set-col}
 use Rattle.star.specs.Tables.{Square, Demands}
-use Rattle.star.specs.Lines.{lineSum}
+use Rattle.star.specs.Lines.{lineSum, Summed}
 use Rattle.star.proofs.LineLaws.{total-rows, total-columns, line-ext, cell-in-row}
 use Rattle.arrays.proofs.Stores.{square-kept}
-use Rattle.cells.specs.Cells.{paddedIn, keptIn, Gave}
+use Rattle.cells.specs.Cells.{paddedIn, Gave}
 use Rattle.cells.proofs.CellLaws.{padded-at, kept-at, padded-length}
-use Rattle.idle.specs.Idle.{Small, Loaded, LineSums, Largest, Lacking, Lacks, CanPad, Fuller, PaddedAt, PaddedRow, PaddedAll, CanFill, Padded}
+use Rattle.idle.specs.Idle.{Small, Loaded, Largest, Lacking, Lacks, CanPad, Fuller, PaddedAt, PaddedAll, CanFill, Padded}
 use Rattle.idle.proofs.LineStores.{place-row-sum, line-more}
 
 -- small line sums are sums of demands
@@ -58,31 +58,17 @@ load-end {n = n} {kept = kept} {table = table} small g le =
       keeps = λ i j hi hj. kept-at table (i * n + j) ∙ omega (arith, at i j hi hj, low i j hi hj);
     }
 
--- ---- the sums of the lines below m
-pub record Summing (n : ℕ) (kept sums0 sums : List ℕ) (m : ℕ) : Type 0 where
-  pub within : m ≤ 2 * n
-  pub len : length sums ≡ length sums0
-  pub all : (ℓ : ℕ) → ℓ < m → getD sums ℓ 0 ≡ lineSum n kept ℓ
-
-pub sums-step : {n : ℕ} {kept sums0 sums : List ℕ} {m b : ℕ} → 2 * n ≤ length sums0 → Summing n kept sums0 sums m → m < 2 * n → b ≡ lineSum n kept m → Summing n kept sums0 (set sums m b) (m + 1)
-sums-step {n = n} {kept = kept} {sums = sums} {m = m} {b = b} fits g lt e = record {
-  within = omega arith;
-  len = length-set sums m b ∙ g .len;
-  all = set-more (lineSum n kept) sums m b (omega (arith, g .len)) e (g .all);
-}
-
 -- ---- the largest of the sums below m
 pub record Topping (n : ℕ) (sums : List ℕ) (most m : ℕ) : Type 0 where
   pub within : m ≤ 2 * n
   pub above : (ℓ : ℕ) → ℓ < m → getD sums ℓ 0 ≤ most
   pub least : (b : ℕ) → ((ℓ : ℕ) → ℓ < 2 * n → getD sums ℓ 0 ≤ b) → most ≤ b
 
-pub top-step : {n : ℕ} {sums : List ℕ} {most m : ℕ} (most' : ℕ) → Topping n sums most m → m < 2 * n → most ≤ most' → getD sums m 0 ≤ most'
-    → ((b : ℕ) → most ≤ b → getD sums m 0 ≤ b → most' ≤ b) → Topping n sums most' (m + 1)
-top-step {sums = sums} {m = m} most' g lt up here low = record {
+pub top-step : {n : ℕ} {sums : List ℕ} {most m : ℕ} {most' : ℕ} → Topping n sums most m → m < 2 * n → most' ≡ max most (getD sums m 0) → Topping n sums most' (m + 1)
+top-step {sums = sums} {most = most} {m = m} {most' = most'} g lt e = record {
   within = omega arith;
-  above = below-more (λ (ℓ : ℕ). getD sums ℓ 0 ≤ most') m (λ ℓ h. omega (arith, g .above ℓ h)) here;
-  least = λ b all. low b (g .least b all) (all m lt);
+  above = below-more (λ (ℓ : ℕ). getD sums ℓ 0 ≤ most') m (λ ℓ h. omega (arith, g .above ℓ h)) (omega arith);
+  least = λ b all. omega (arith, g .least b all, all m lt);
 }
 
 -- ---- what the lines below m lack, in place of their sums
@@ -178,7 +164,7 @@ module _ {n : ℕ} {v lack : List ℕ} (c : CanPad n v lack) {i j : ℕ} (hi : i
             (λ le. inr (lack-column ∙ omega arith));
       }
 
--- ---- the pairs of a row, and all rows
+-- ---- one pair after the other
 fuller-none : (n : ℕ) (v lack : List ℕ) → Fuller n v lack v lack
 fuller-none n v lack = record { keeps = λ r l. l; lines = λ ℓ h. omega arith; cells = λ i j hi hj. omega arith; kept = refl }
 
@@ -191,67 +177,8 @@ fuller-more a b = record {
 }
 
 -- a line that lacks nothing goes on to lack nothing
-zero-kept : {n : ℕ} {v lack v' lack' : List ℕ} → Fuller n v lack v' lack' → (i j : ℕ) → i < n → j < n → (getD lack i 0 ≡ 0) ⊎ (getD lack (n + j) 0 ≡ 0) → (getD lack' i 0 ≡ 0) ⊎ (getD lack' (n + j) 0 ≡ 0)
-zero-kept {n = n} f i j hi hj z =
-    ⊎-elim (λ e. inl (omega (arith, f .lines i (omega arith)))) (λ e. inr (omega (arith, f .lines (n + j) (omega arith)))) z
-
-pub record RowPadding (n : ℕ) (v lack v' lack' : List ℕ) (i m : ℕ) : Type 0 where
-  pub within : m ≤ n
-  pub padded : PaddedRow n v lack v' lack' i m
-  pub table-len : length v' ≡ length v
-  pub lack-len : length lack' ≡ length lack
-
-pub row-start : (n : ℕ) (v lack : List ℕ) (i : ℕ) → RowPadding n v lack v lack i 0
-row-start n v lack i = record {
-  within = omega arith;
-  padded = record { fuller = fuller-none n v lack; none = λ j lt. absurd (omega arith) };
-  table-len = refl;
-  lack-len = refl;
-}
-
-pub row-can : {n : ℕ} {v lack v' lack' : List ℕ} {i m : ℕ} → CanPad n v lack → RowPadding n v lack v' lack' i m → CanPad n v' lack'
-row-can c g = can-kept (g .table-len) (g .lack-len) (g .padded .fuller) c
-
-pub row-step : {n : ℕ} {v lack v' lack' v'' lack'' : List ℕ} {i m : ℕ} → i < n → m < n → RowPadding n v lack v' lack' i m → length v'' ≡ length v' → length lack'' ≡ length lack'
-    → PaddedAt n v' lack' v'' lack'' i m → RowPadding n v lack v'' lack'' i (m + 1)
-row-step {n = n} {lack'' = lack''} {i = i} {m = m} hi hm g ev el p = record {
-  within = omega arith;
-  padded = record {
-    fuller = fuller-more (g .padded .fuller) (p .fuller);
-    none = below-more (λ (j : ℕ). (getD lack'' i 0 ≡ 0) ⊎ (getD lack'' (n + j) 0 ≡ 0)) m
-        (λ j hj. zero-kept (p .fuller) i j hi (omega arith) (g .padded .none j hj)) (p .none);
-  };
-  table-len = ev ∙ g .table-len;
-  lack-len = el ∙ g .lack-len;
-}
-
-pub row-end : {n : ℕ} {v lack v' lack' : List ℕ} {i m : ℕ} → RowPadding n v lack v' lack' i m → n ≤ m → PaddedRow n v lack v' lack' i n
-row-end g le = record { fuller = g .padded .fuller; none = λ j hj. g .padded .none j (omega arith) }
-
--- the rows below m are done
-pub record AllPadding (n : ℕ) (v lack v' lack' : List ℕ) (m : ℕ) : Type 0 where
-  pub within : m ≤ n
-  pub fuller : Fuller n v lack v' lack'
-  pub none : (i : ℕ) → i < m → (j : ℕ) → j < n → (getD lack' i 0 ≡ 0) ⊎ (getD lack' (n + j) 0 ≡ 0)
-  pub table-len : length v' ≡ length v
-  pub lack-len : length lack' ≡ length lack
-
-pub all-start : (n : ℕ) (v lack : List ℕ) → AllPadding n v lack v lack 0
-all-start n v lack = record { within = omega arith; fuller = fuller-none n v lack; none = λ i lt. absurd (omega arith); table-len = refl; lack-len = refl }
-
-pub all-can : {n : ℕ} {v lack v' lack' : List ℕ} {m : ℕ} → CanPad n v lack → AllPadding n v lack v' lack' m → CanPad n v' lack'
-all-can c g = can-kept (g .table-len) (g .lack-len) (g .fuller) c
-
-pub all-step : {n : ℕ} {v lack v' lack' v'' lack'' : List ℕ} {m : ℕ} → m < n → AllPadding n v lack v' lack' m → length v'' ≡ length v' → length lack'' ≡ length lack'
-    → PaddedRow n v' lack' v'' lack'' m n → AllPadding n v lack v'' lack'' (m + 1)
-all-step {n = n} {lack'' = lack''} {m = m} hm g ev el p = record {
-  within = omega arith;
-  fuller = fuller-more (g .fuller) (p .fuller);
-  none = below-more (λ (i : ℕ). (j : ℕ) → j < n → (getD lack'' i 0 ≡ 0) ⊎ (getD lack'' (n + j) 0 ≡ 0)) m
-      (λ i hi j hj. zero-kept (p .fuller) i j (omega arith) hj (g .none i hi j hj)) (p .none);
-  table-len = ev ∙ g .table-len;
-  lack-len = el ∙ g .lack-len;
-}
+none-kept : {n : ℕ} {v lack v' lack' : List ℕ} → Fuller n v lack v' lack' → (ℓ : ℕ) → ℓ < 2 * n → getD lack ℓ 0 ≡ 0 → getD lack' ℓ 0 ≡ 0
+none-kept f ℓ h e = omega (arith, f .lines ℓ h)
 
 -- ---- the end: rows and columns lack the same in all
 module _ {n : ℕ} {v lack : List ℕ} {r : ℕ} (l : Lacks n v lack r) (none : (i j : ℕ) → i < n → j < n → (getD lack i 0 ≡ 0) ⊎ (getD lack (n + j) 0 ≡ 0)) where
@@ -287,9 +214,70 @@ module _ {n : ℕ} {v lack : List ℕ} {r : ℕ} (l : Lacks n v lack r) (none : 
   pub full-lines : (ℓ : ℕ) → ℓ < 2 * n → lineSum n (paddedIn v) ℓ ≡ r
   full-lines ℓ hl = omega (arith, l .lines ℓ hl, no-lack ℓ hl)
 
-pub all-end : {n : ℕ} {v lack v' lack' : List ℕ} {m : ℕ} → AllPadding n v lack v' lack' m → n ≤ m → PaddedAll n v v' lack
-all-end g le = record {
-  lines = λ r l. full-lines (g .fuller .keeps r l) (λ i j hi hj. g .none i (omega arith) j hj);
+-- ---- down the stairs: the rows before i and the columns before j lack nothing
+pub record Stairs (n : ℕ) (v lack v' lack' : List ℕ) (i j : ℕ) : Type 0 where
+  pub row-within : i ≤ n
+  pub column-within : j ≤ n
+  pub fuller : Fuller n v lack v' lack'
+  pub rows : (a : ℕ) → a < i → getD lack' a 0 ≡ 0
+  pub columns : (b : ℕ) → b < j → getD lack' (n + b) 0 ≡ 0
+  pub table-len : length v' ≡ length v
+  pub lack-len : length lack' ≡ length lack
+
+pub stairs-start : (n : ℕ) (v lack : List ℕ) → Stairs n v lack v lack 0 0
+stairs-start n v lack = record {
+  row-within = omega arith;
+  column-within = omega arith;
+  fuller = fuller-none n v lack;
+  rows = λ a lt. absurd (omega arith);
+  columns = λ b lt. absurd (omega arith);
+  table-len = refl;
+  lack-len = refl;
+}
+
+pub stairs-can : {n : ℕ} {v lack v' lack' : List ℕ} {i j : ℕ} → CanPad n v lack → Stairs n v lack v' lack' i j → CanPad n v' lack'
+stairs-can c g = can-kept (g .table-len) (g .lack-len) (g .fuller) c
+
+-- a pair got its idle slots: its row lacks nothing and is left behind, or its column is
+module _ {n : ℕ} {v lack v' lack' v'' lack'' : List ℕ} {i j : ℕ} (hi : i < n) (hj : j < n) (g : Stairs n v lack v' lack' i j)
+    (ev : length v'' ≡ length v') (el : length lack'' ≡ length lack') (p : PaddedAt n v' lack' v'' lack'' i j) where
+  stair : Stairs n v lack v'' lack'' i j
+  stair = record {
+    row-within = g .row-within;
+    column-within = g .column-within;
+    fuller = fuller-more (g .fuller) (p .fuller);
+    rows = λ a lt. none-kept (p .fuller) a (omega arith) (g .rows a lt);
+    columns = λ b lt. none-kept (p .fuller) (n + b) (omega arith) (g .columns b lt);
+    table-len = ev ∙ g .table-len;
+    lack-len = el ∙ g .lack-len;
+  }
+
+  pub stair-down : getD lack'' i 0 ≡ 0 → Stairs n v lack v'' lack'' (i + 1) j
+  stair-down e = record {
+    row-within = omega arith;
+    column-within = stair .column-within;
+    fuller = stair .fuller;
+    rows = below-more (λ (a : ℕ). getD lack'' a 0 ≡ 0) i (stair .rows) e;
+    columns = stair .columns;
+    table-len = stair .table-len;
+    lack-len = stair .lack-len;
+  }
+
+  pub stair-right : (getD lack'' i 0 ≡ 0 → ⊥) → Stairs n v lack v'' lack'' i (j + 1)
+  stair-right ne = record {
+    row-within = stair .row-within;
+    column-within = omega arith;
+    fuller = stair .fuller;
+    rows = stair .rows;
+    columns = below-more (λ (b : ℕ). getD lack'' (n + b) 0 ≡ 0) j (stair .columns) (⊎-elim (λ e. absurd (ne e)) (λ e. e) (p .none));
+    table-len = stair .table-len;
+    lack-len = stair .lack-len;
+  }
+
+-- one side lacks nothing at all
+pub stairs-end : {n : ℕ} {v lack v' lack' : List ℕ} {i j : ℕ} → Stairs n v lack v' lack' i j → (n ≤ i) ⊎ (n ≤ j) → PaddedAll n v v' lack
+stairs-end {n = n} {i = i} {j = j} g side = record {
+  lines = λ r l. full-lines (g .fuller .keeps r l) (λ a b ha hb. ⊎-elim (λ (h : n ≤ i). inl (g .rows a (omega arith))) (λ (h : n ≤ j). inr (g .columns b (omega arith))) side);
   cells = g .fuller .cells;
   kept = g .fuller .kept;
 }
@@ -320,13 +308,13 @@ spare-step lt g ev el f = record {
 }
 
 -- ---- the whole
-pub most-small : {n : ℕ} {kept sums : List ℕ} {r : ℕ} → Small n kept → LineSums n kept sums → Largest n sums r → r ≤ 1024
-most-small small s t = t .least 1024 (λ ℓ h. omega (arith, s .all ℓ h, small .lines ℓ h))
+most-small : {n : ℕ} {kept sums : List ℕ} {r : ℕ} → Small n kept → Summed n kept sums → Largest n sums r → r ≤ 1024
+most-small small s t = t .least 1024 (λ ℓ h. omega (arith, s .lines ℓ h, small .lines ℓ h))
 
 -- v is the loaded table, and w the same with idle slots at pairs that keep nothing
-module _ {n : ℕ} {kept v sums : List ℕ} {r : ℕ} (c : Loaded n kept v) (s : LineSums n kept sums) (t : Largest n sums r) {lack : List ℕ} (k : Lacking n sums lack r) where
-  pub lacks-of : Lacks n v lack r
-  lacks-of = record { lines = λ ℓ h. omega (arith, k .all ℓ h, s .all ℓ h, line-ext n (paddedIn v) kept (c .padded) ℓ h) }
+module _ {n : ℕ} {kept v sums : List ℕ} {r : ℕ} (c : Loaded n kept v) (s : Summed n kept sums) (t : Largest n sums r) {lack : List ℕ} (k : Lacking n sums lack r) where
+  lacks-of : Lacks n v lack r
+  lacks-of = record { lines = λ ℓ h. omega (arith, k .all ℓ h, s .lines ℓ h, line-ext n (paddedIn v) kept (c .padded) ℓ h) }
 
   pub loaded-can : CanFill n kept → length v ≡ length kept → 2 * n ≤ length lack → CanPad n v lack
   loaded-can f e le = record { square = square-kept kept v e (f .square); lines = le; r = r; small = most-small (f .small) s t; lacks = lacks-of }
@@ -336,5 +324,5 @@ module _ {n : ℕ} {kept v sums : List ℕ} {r : ℕ} (c : Loaded n kept v) (s :
     lines = p .lines r (f .keeps r lacks-of);
     cells = λ i j hi hj. omega (arith, f .cells i j hi hj, p .cells i j hi hj, c .padded i j hi hj);
     keeps = λ i j hi hj. ap (λ (x : List ℕ). cell n x i j) (p .kept ∙ f .kept) ∙ c .keeps i j hi hj;
-    least = λ b h. t .least b (λ ℓ hl. omega (arith, s .all ℓ hl, h ℓ hl));
+    least = λ b h. t .least b (λ ℓ hl. omega (arith, s .lines ℓ hl, h ℓ hl));
   }

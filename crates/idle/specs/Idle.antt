@@ -18,9 +18,6 @@ pub record Loaded (n : ℕ) (kept table : List ℕ) : Type 0 where
   pub padded : (i j : ℕ) → i < n → j < n → cell n (paddedIn table) i j ≡ cell n kept i j
   pub keeps : (i j : ℕ) → i < n → j < n → cell n (keptIn table) i j ≡ cell n kept i j
 
-pub record LineSums (n : ℕ) (kept sums : List ℕ) : Type 0 where
-  pub all : (ℓ : ℕ) → ℓ < 2 * n → getD sums ℓ 0 ≡ lineSum n kept ℓ
-
 -- no sum is above r, and r is no more than needed
 pub record Largest (n : ℕ) (sums : List ℕ) (r : ℕ) : Type 0 where
   pub above : (ℓ : ℕ) → ℓ < 2 * n → getD sums ℓ 0 ≤ r
@@ -50,11 +47,6 @@ pub record Fuller (n : ℕ) (x lack x' lack' : List ℕ) : Type 0 where
 pub record PaddedAt (n : ℕ) (x lack x' lack' : List ℕ) (i j : ℕ) : Type 0 where
   pub fuller : Fuller n x lack x' lack'
   pub none : (getD lack' i 0 ≡ 0) ⊎ (getD lack' (n + j) 0 ≡ 0)
-
--- the first m pairs of source i are done
-pub record PaddedRow (n : ℕ) (x lack x' lack' : List ℕ) (i m : ℕ) : Type 0 where
-  pub fuller : Fuller n x lack x' lack'
-  pub none : (j : ℕ) → j < m → (getD lack' i 0 ≡ 0) ⊎ (getD lack' (n + j) 0 ≡ 0)
 
 -- no line lacks any more
 pub record PaddedAll (n : ℕ) (x x' lack : List ℕ) : Type 0 where

@@ -1,10 +1,11 @@
 // Filling a kept matrix up with idle slots until every line has one sum, the largest line sum of the matrix.
-use arrays::lists;
+use star::lines::line_sums;
+use star::numbers::larger;
 use star::numbers::smaller;
 ghost use Prim.Native.Nat.{_*_, _<_, _≤_};
 ghost use lib.ListN.{length};
 ghost use Rattle.star.specs.Tables.{Square};
-ghost use Rattle.idle.specs.Idle.{Small, Loaded, LineSums, Largest, Lacking, CanPad, Fuller, PaddedAt, PaddedRow, PaddedAll, CanFill, Padded};
+ghost use Rattle.idle.specs.Idle.{Small, Loaded, Largest, Lacking, CanPad, Fuller, PaddedAt, PaddedAll, CanFill, Padded};
 
 // Every pair gets what it keeps.
 fn load(n: usize, table: &mut [u32])
@@ -19,61 +20,44 @@ fn load(n: usize, table: &mut [u32])
     }
 }
 
-// The sums of all lines, in line order.
-fn line_sums(n: usize, kept: &[u32], sums: &mut [u16])
-    requires { ⌜ (Square n (now kept)) × (Small n (now kept)) × (2 * n ≤ length (now sums)) ⌝ }
-    ensures { λ _. ⌜ LineSums n (now (kept .entry)) (now (sums .exit)) ⌝ }
-{
-    let mut line = 0;
-    while line < 2 * n {
-        lists::put_number(sums, line, star::lines::line_sum(n, kept, line));
-        line += 1;
-    }
-}
-
 // The largest of the sums.
-fn largest(n: usize, sums: &[u16]) -> u32
+fn largest(n: usize, sums: &[u32]) -> u32
     requires { ⌜ (n ≤ 64) × (2 * n ≤ length (now sums)) ⌝ }
     ensures { λ r. ⌜ Largest n (now (sums .entry)) r ⌝ }
 {
     let mut most: u32 = 0;
     let mut line = 0;
     while line < 2 * n {
-        let sum = lists::number(sums, line);
+        most = larger(most, sums[line]);
         line += 1;
-        if sum < most {
-            continue;
-        }
-        most = sum;
     }
     most
 }
 
 // What each line lacks of r, in place of its sum.
-fn lacks(n: usize, lack: &mut [u16], r: u32)
-    requires { ⌜ (n ≤ 64) × (2 * n ≤ length (now lack)) × (r ≤ 1024) × (Largest n (now lack) r) ⌝ }
+fn lacks(n: usize, lack: &mut [u32], r: u32)
+    requires { ⌜ (n ≤ 64) × (2 * n ≤ length (now lack)) × (Largest n (now lack) r) ⌝ }
     ensures { λ _. ⌜ Lacking n (now (lack .entry)) (now (lack .exit)) r ⌝ }
 {
     let mut line = 0;
     while line < 2 * n {
-        let sum = lists::number(lack, line);
-        lists::put_number(lack, line, r - sum);
+        lack[line] = r - lack[line];
         line += 1;
     }
 }
 
 // Gives the pair as many idle slots as its row and its column both lack.
-fn pad_at(n: usize, table: &mut [u32], lack: &mut [u16], i: usize, j: usize)
+fn pad_at(n: usize, table: &mut [u32], lack: &mut [u32], i: usize, j: usize)
     requires { ⌜ CanPad n (now table) (now lack) ⌝ }
     requires { ⌜ (i < n) × (j < n) ⌝ }
     ensures { λ _. ⌜ PaddedAt n (now (table .entry)) (now (lack .entry)) (now (table .exit)) (now (lack .exit)) i j ⌝ }
 {
-    let row = lists::number(lack, i);
-    let column = lists::number(lack, n + j);
+    let row = lack[i];
+    let column = lack[n + j];
     let idle = smaller(row, column);
     cells::give(n, table, i, j, idle);
-    lists::put_number(lack, i, row - idle);
-    lists::put_number(lack, n + j, column - idle);
+    lack[i] = row - idle;
+    lack[n + j] = column - idle;
 }
 
 // The destination after j; after the last one the first.
@@ -84,8 +68,9 @@ fn after(n: usize, j: usize) -> usize
     if j + 1 < n { j + 1 } else { 0 }
 }
 
-// Gives idle slots to the pairs of source i that keep nothing, from destination i on: a pair that is idle only never changes by itself.
-fn spare_row(n: usize, table: &mut [u32], lack: &mut [u16], i: usize)
+// Gives idle slots to the pairs of source i that keep nothing, from destination i on, until the row lacks nothing: a pair that is idle only never
+// changes by itself.
+fn spare_row(n: usize, table: &mut [u32], lack: &mut [u32], i: usize)
     requires { ⌜ CanPad n (now table) (now lack) ⌝ }
     requires { ⌜ i < n ⌝ }
     ensures { λ _. ⌜ Fuller n (now (table .entry)) (now (lack .entry)) (now (table .exit)) (now (lack .exit)) ⌝ }
@@ -93,6 +78,9 @@ fn spare_row(n: usize, table: &mut [u32], lack: &mut [u16], i: usize)
     let mut j = i;
     let mut passed = 0;
     while passed < n {
+        if lack[i] == 0 {
+            return;
+        }
         if cells::kept(n, table, i, j) > 0 {
             j = after(n, j);
             passed += 1;
@@ -105,7 +93,7 @@ fn spare_row(n: usize, table: &mut [u32], lack: &mut [u16], i: usize)
 }
 
 // Gives idle slots to all pairs that keep nothing.
-fn spare_all(n: usize, table: &mut [u32], lack: &mut [u16])
+fn spare_all(n: usize, table: &mut [u32], lack: &mut [u32])
     requires { ⌜ CanPad n (now table) (now lack) ⌝ }
     ensures { λ _. ⌜ Fuller n (now (table .entry)) (now (lack .entry)) (now (table .exit)) (now (lack .exit)) ⌝ }
 {
@@ -116,33 +104,28 @@ fn spare_all(n: usize, table: &mut [u32], lack: &mut [u16])
     }
 }
 
-// Gives the pairs of source i as many idle slots as their lines lack.
-fn pad_row(n: usize, table: &mut [u32], lack: &mut [u16], i: usize)
-    requires { ⌜ CanPad n (now table) (now lack) ⌝ }
-    requires { ⌜ i < n ⌝ }
-    ensures { λ _. ⌜ PaddedRow n (now (table .entry)) (now (lack .entry)) (now (table .exit)) (now (lack .exit)) i n ⌝ }
-{
-    let mut j = 0;
-    while j < n {
-        pad_at(n, table, lack, i, j);
-        j += 1;
-    }
-}
-
-// Gives all pairs as many idle slots as their lines lack.
-fn pad_all(n: usize, table: &mut [u32], lack: &mut [u16])
+// Gives what is still lacking down a staircase: after each pair its row or its column lacks nothing and is left behind.
+fn stairs(n: usize, table: &mut [u32], lack: &mut [u32])
     requires { ⌜ CanPad n (now table) (now lack) ⌝ }
     ensures { λ _. ⌜ PaddedAll n (now (table .entry)) (now (table .exit)) (now (lack .entry)) ⌝ }
 {
     let mut i = 0;
+    let mut j = 0;
     while i < n {
-        pad_row(n, table, lack, i);
-        i += 1;
+        if j >= n {
+            return;
+        }
+        pad_at(n, table, lack, i, j);
+        if lack[i] == 0 {
+            i += 1;
+            continue;
+        }
+        j += 1;
     }
 }
 
 // Pads the matrix, with a list to work in for what the lines lack.
-fn pad_with(n: usize, table: &mut [u32], lack: &mut [u16]) -> u32
+fn pad_with(n: usize, table: &mut [u32], lack: &mut [u32]) -> u32
     requires { ⌜ CanFill n (now table) ⌝ }
     requires { ⌜ 2 * n ≤ length (now lack) ⌝ }
     ensures { λ r. ⌜ Padded n (now (table .entry)) (now (table .exit)) r ⌝ }
@@ -152,7 +135,7 @@ fn pad_with(n: usize, table: &mut [u32], lack: &mut [u16]) -> u32
     lacks(n, lack, r);
     load(n, table);
     spare_all(n, table, lack);
-    pad_all(n, table, lack);
+    stairs(n, table, lack);
     r
 }
 
@@ -161,6 +144,6 @@ pub fn pad(n: usize, table: &mut [u32]) -> u32
     requires { ⌜ CanFill n (now table) ⌝ }
     ensures { λ r. ⌜ Padded n (now (table .entry)) (now (table .exit)) r ⌝ }
 {
-    let mut lack = [0u16; 128];
+    let mut lack = [0u32; 128];
     pad_with(n, table, &mut lack)
 }

@@ -3,11 +3,11 @@ use crate::tables::get;
 use crate::tables::put;
 ghost use mathlib.Core.Path.{_≡_};
 ghost use Prim.Native.Nat.{_+_, _*_, _<_, _≤_};
-ghost use lib.ListN.{set};
+ghost use lib.ListN.{length, set};
 ghost use lib.IntN.{subℕ};
 ghost use lib.Signed.{mag};
 ghost use Rattle.star.specs.Tables.{Square, Demands};
-ghost use Rattle.star.specs.Lines.{sourceOn, destinationOn, crossing, onLine, lineSum, excessOf};
+ghost use Rattle.star.specs.Lines.{sourceOn, destinationOn, crossing, onLine, lineSum, excessOf, Summed, Unsummed, SummedTo};
 ghost use Rattle.star.specs.Refusals.{firstAbove};
 
 // The line that crosses a line at its t-th pair.
@@ -58,6 +58,52 @@ pub fn line_sum(n: usize, demand: &[u32], line: usize) -> u32
         t += 1;
     }
     sum
+}
+
+// The columns' sums are 0 from now on.
+fn clear_columns(n: usize, sums: &mut [u32])
+    requires { ⌜ (n ≤ 64) × (2 * n ≤ length (now sums)) ⌝ }
+    ensures { λ _. ⌜ Unsummed n (now (sums .exit)) n ⌝ }
+{
+    let mut j = 0;
+    while j < n {
+        sums[n + j] = 0;
+        j += 1;
+    }
+}
+
+// Adds the cells of row i to the sums of their columns, and gives the row's own sum.
+fn sum_row(n: usize, table: &[u32], sums: &mut [u32], i: usize) -> u32
+    requires { ⌜ Square n (now table) ⌝ }
+    requires { ⌜ Demands n (now table) ⌝ }
+    requires { ⌜ (2 * n ≤ length (now sums)) × (i < n) × (SummedTo n (now table) (now sums) i 0) ⌝ }
+    ensures { λ r. ⌜ (r ≡ lineSum n (now (table .entry)) i) × (SummedTo n (now (table .entry)) (now (sums .exit)) i n) ⌝ }
+{
+    let mut sum: u32 = 0;
+    let mut j = 0;
+    while j < n {
+        let x = get(n, table, i, j);
+        sum += x;
+        sums[n + j] += x;
+        j += 1;
+    }
+    sum
+}
+
+// The sums of all lines, in line order, in one pass over the rows.
+pub fn line_sums(n: usize, table: &[u32], sums: &mut [u32])
+    requires { ⌜ Square n (now table) ⌝ }
+    requires { ⌜ Demands n (now table) ⌝ }
+    requires { ⌜ 2 * n ≤ length (now sums) ⌝ }
+    ensures { λ _. ⌜ Summed n (now (table .entry)) (now (sums .exit)) ⌝ }
+{
+    clear_columns(n, sums);
+    let mut i = 0;
+    while i < n {
+        let sum = sum_row(n, table, sums, i);
+        sums[i] = sum;
+        i += 1;
+    }
 }
 
 // The slack of a line: its capacity minus its sum.

@@ -16,25 +16,31 @@ loop-holds : tie.Need-loop-holds Inv-loop μ-loop
 loop-holds c = record { within = omega arith; len = refl; done = λ ℓ lt. absurd (omega arith); rest = λ ℓ le. refl }
 
 mul-loop : tie.Need-mul-loop Inv-loop μ-loop
-mul-loop c = omega (arith, c .before .before .pre .0)
+mul-loop c = omega arith
 
-number-requires : tie.Need-number-requires Inv-loop μ-loop
-number-requires c κs = omega (arith, c .before .before .before .before .pre .1, c .before .before .loop .inv .len)
+mul-lack : tie.Need-mul-lack Inv-loop μ-loop
+mul-lack c = omega arith
 
-sub-put-number : tie.Need-sub-put-number Inv-loop μ-loop
-sub-put-number c = omega (arith, c .before .number .ensures, c .before .before .before .before .loop .inv .rest (c .before .before .before .before .loop .line) (omega arith), c .before .before .before .before .before .before .pre .3 .above (c .before .before .before .before .loop .line) (c .before .before .before .loop-test .taken))
+slice-read-lack : tie.Need-slice-read-lack Inv-loop μ-loop
+slice-read-lack c = omega arith
 
-put-number-requires : tie.Need-put-number-requires Inv-loop μ-loop
-put-number-requires c κs = (omega (arith, c .before .before .before .before .before .before .pre .1, c .before .before .before .before .loop .inv .len), omega (arith, c .before .before .before .before .before .before .pre .2))
+sub-lack : tie.Need-sub-lack Inv-loop μ-loop
+sub-lack c = omega (arith, c .before .before .loop .inv .rest (c .before .before .loop .line) (omega arith), c .before .before .before .pre .2 .above (c .before .before .loop .line) (c .before .loop-test .taken))
+
+mul-lack-2 : tie.Need-mul-lack-2 Inv-loop μ-loop
+mul-lack-2 c = omega arith
+
+slice-write-lack : tie.Need-slice-write-lack Inv-loop μ-loop
+slice-write-lack c = omega arith
 
 add-line : tie.Need-add-line Inv-loop μ-loop
-add-line c = omega (arith, c .before .before .before .before .before .before .before .before .before .pre .0)
+add-line c = omega arith
 
 loop-less : tie.Need-loop-less Inv-loop μ-loop
 loop-less c = omega arith
 
 loop-again : tie.Need-loop-again Inv-loop μ-loop
-loop-again c = rw (c .before .before .put-number .ensures, c .before .before .before .before .number .ensures) (lack-step (c .before .before .before .before .before .before .before .before .before .pre .1) (c .before .before .before .before .before .before .before .before .before .pre .3) (c .before .before .before .before .before .before .before .loop .inv) (c .before .before .before .before .before .before .loop-test .taken))
+loop-again c = lack-step (c .before .before .before .pre .1) (c .before .before .before .pre .2) (c .before .before .loop .inv) (c .before .loop-test .taken)
 
 same-length : tie.Need-same-length Inv-loop μ-loop
 same-length c = c .before .loop .inv .len
@@ -50,9 +56,11 @@ lacks-spec =
     μ-loop
     loop-holds
     mul-loop
-    number-requires
-    sub-put-number
-    put-number-requires
+    mul-lack
+    slice-read-lack
+    sub-lack
+    mul-lack-2
+    slice-write-lack
     add-line
     loop-less
     loop-again

@@ -1,6 +1,7 @@
 -- `idle::largest` meets its contract: no sum passed is above the number, and the number is one of them or 0. Assumes nothing.
 use Prim.Native.Nat.{_*_, _-_}
 use native.Mathlib.Omega.{arith}
+use borrow.Author.Needs.{needs}
 use Rattle.idle.proofs.Pads.{Topping, top-step}
 use Rattle.idle.proofs.largest.Statement.{statement}
 use Rattle.idle.proofs.largest.Tie as tie
@@ -15,25 +16,25 @@ loop-holds : tie.Need-loop-holds Inv-loop μ-loop
 loop-holds c = record { within = omega arith; above = λ ℓ lt. absurd (omega arith); least = λ b h. omega arith }
 
 mul-loop : tie.Need-mul-loop Inv-loop μ-loop
-mul-loop c = omega (arith, c .before .before .pre .0)
+mul-loop c = omega arith
 
-number-requires : tie.Need-number-requires Inv-loop μ-loop
-number-requires c κs = omega (arith, c .before .before .before .pre .1)
+mul-larger : tie.Need-mul-larger Inv-loop μ-loop
+mul-larger c = omega arith
+
+shared-slice-read-larger : tie.Need-shared-slice-read-larger Inv-loop μ-loop
+shared-slice-read-larger c = omega arith
+
+larger-requires : tie.Need-larger-requires Inv-loop μ-loop
+larger-requires c κs = search needs
 
 add-line : tie.Need-add-line Inv-loop μ-loop
-add-line c = omega (arith, c .before .before .before .before .pre .0)
+add-line c = omega arith
 
 loop-less : tie.Need-loop-less Inv-loop μ-loop
 loop-less c = omega arith
 
 loop-again : tie.Need-loop-again Inv-loop μ-loop
-loop-again c = top-step _ (c .before .before .before .loop .inv) (c .before .before .loop-test .taken) (omega arith) (omega (arith, c .before .number .ensures)) (λ b h q. h)
-
-loop-less-2 : tie.Need-loop-less-2 Inv-loop μ-loop
-loop-less-2 c = omega arith
-
-loop-again-2 : tie.Need-loop-again-2 Inv-loop μ-loop
-loop-again-2 c = top-step _ (c .before .before .before .loop .inv) (c .before .before .loop-test .taken) (omega arith) (omega (arith, c .before .number .ensures)) (λ b h q. omega (arith, c .before .number .ensures))
+loop-again c = top-step (c .before .before .before .loop .inv) (c .before .before .loop-test .taken) (c .larger .ensures)
 
 returns : tie.Need-returns Inv-loop μ-loop
 returns c = record { above = λ ℓ lt. c .before .loop .inv .above ℓ (omega arith); least = c .before .loop .inv .least }
@@ -46,10 +47,10 @@ largest-spec =
     μ-loop
     loop-holds
     mul-loop
-    number-requires
+    mul-larger
+    shared-slice-read-larger
+    larger-requires
     add-line
     loop-less
     loop-again
-    loop-less-2
-    loop-again-2
     returns)

@@ -1,18 +1,18 @@
 -- `idle::pad_with` meets its contract: the steps one after the other: the sums, the largest, what is lacking, the load, and the padding. Assumes nothing.
 use native.Mathlib.Omega.{arith}
 use borrow.Author.Needs.{needs}
-use Rattle.idle.proofs.Pads.{can-kept, most-small, loaded-can, padded-of}
+use Rattle.idle.proofs.Pads.{small-demands, can-kept, loaded-can, padded-of}
 use Rattle.idle.proofs.pad_with.Statement.{statement}
 use Rattle.idle.proofs.pad_with.Tie as tie
 
 line-sums-requires : tie.Need-line-sums-requires
-line-sums-requires c κs = search needs
+line-sums-requires c κs = (c .before .before .before .before .pre .0 .square, (small-demands _ _ (c .before .before .before .before .pre .0 .small), c .before .before .before .before .pre .1))
 
 largest-requires : tie.Need-largest-requires
 largest-requires c κs = search needs
 
 lacks-requires : tie.Need-lacks-requires
-lacks-requires c κs = (c .before .before .before .before .before .before .before .before .before .before .pre .0 .square .nodes, omega (arith, c .before .before .before .before .before .before .before .before .before .before .pre .1, c .before .before .before .before .before .line-sums .kept .1 .1 .0), most-small (c .before .before .before .before .before .before .before .before .before .before .pre .0 .small) (c .before .before .before .before .before .line-sums .ensures) (c .before .largest .ensures), c .before .largest .ensures)
+lacks-requires c κs = search needs
 
 load-requires : tie.Need-load-requires
 load-requires c κs = search needs
@@ -20,8 +20,8 @@ load-requires c κs = search needs
 spare-all-requires : tie.Need-spare-all-requires
 spare-all-requires c κs = loaded-can (c .before .before .before .before .load .ensures) (c .before .before .before .before .before .before .before .before .before .before .before .before .before .before .line-sums .ensures) (c .before .before .before .before .before .before .before .before .before .before .largest .ensures) (c .before .before .before .before .before .before .before .before .lacks .ensures) (c .before .before .before .before .before .before .before .before .before .before .before .before .before .before .before .before .before .before .before .pre .0) (c .before .before .before .before .load .kept .1 .0) (omega (arith, c .before .before .before .before .before .before .before .before .before .before .before .before .before .before .before .before .before .before .before .pre .1, c .before .before .before .before .before .before .before .before .before .before .before .before .before .before .line-sums .kept .1 .1 .0, c .before .before .before .before .before .before .before .before .lacks .kept .1 .0))
 
-pad-all-requires : tie.Need-pad-all-requires
-pad-all-requires c κs = can-kept (c .before .before .before .before .before .before .spare-all .kept .1 .0) (c .before .before .before .before .before .before .spare-all .kept .1 .1 .0) (c .before .before .before .before .before .before .spare-all .ensures) (loaded-can (c .before .before .before .before .before .before .before .before .before .before .before .load .ensures) (c .before .before .before .before .before .before .before .before .before .before .before .before .before .before .before .before .before .before .before .before .before .line-sums .ensures) (c .before .before .before .before .before .before .before .before .before .before .before .before .before .before .before .before .before .largest .ensures) (c .before .before .before .before .before .before .before .before .before .before .before .before .before .before .before .lacks .ensures) (c .before .before .before .before .before .before .before .before .before .before .before .before .before .before .before .before .before .before .before .before .before .before .before .before .before .before .pre .0) (c .before .before .before .before .before .before .before .before .before .before .before .load .kept .1 .0) (omega (arith, c .before .before .before .before .before .before .before .before .before .before .before .before .before .before .before .before .before .before .before .before .before .before .before .before .before .before .pre .1, c .before .before .before .before .before .before .before .before .before .before .before .before .before .before .before .before .before .before .before .before .before .line-sums .kept .1 .1 .0, c .before .before .before .before .before .before .before .before .before .before .before .before .before .before .before .lacks .kept .1 .0)))
+stairs-requires : tie.Need-stairs-requires
+stairs-requires c κs = can-kept (c .before .before .before .before .before .before .spare-all .kept .1 .0) (c .before .before .before .before .before .before .spare-all .kept .1 .1 .0) (c .before .before .before .before .before .before .spare-all .ensures) (loaded-can (c .before .before .before .before .before .before .before .before .before .before .before .load .ensures) (c .before .before .before .before .before .before .before .before .before .before .before .before .before .before .before .before .before .before .before .before .before .line-sums .ensures) (c .before .before .before .before .before .before .before .before .before .before .before .before .before .before .before .before .before .largest .ensures) (c .before .before .before .before .before .before .before .before .before .before .before .before .before .before .before .lacks .ensures) (c .before .before .before .before .before .before .before .before .before .before .before .before .before .before .before .before .before .before .before .before .before .before .before .before .before .before .pre .0) (c .before .before .before .before .before .before .before .before .before .before .before .load .kept .1 .0) (omega (arith, c .before .before .before .before .before .before .before .before .before .before .before .before .before .before .before .before .before .before .before .before .before .before .before .before .before .before .pre .1, c .before .before .before .before .before .before .before .before .before .before .before .before .before .before .before .before .before .before .before .before .before .line-sums .kept .1 .1 .0, c .before .before .before .before .before .before .before .before .before .before .before .before .before .before .before .lacks .kept .1 .0)))
 
 same-length : tie.Need-same-length
 same-length c = search needs
@@ -30,7 +30,7 @@ same-length-2 : tie.Need-same-length-2
 same-length-2 c = search needs
 
 returns : tie.Need-returns
-returns c = padded-of (c .before .before .before .before .before .before .before .before .before .before .before .before .before .before .before .before .load .ensures) (c .before .before .before .before .before .before .before .before .before .before .before .before .before .before .before .before .before .before .before .before .before .before .before .before .before .before .line-sums .ensures) (c .before .before .before .before .before .before .before .before .before .before .before .before .before .before .before .before .before .before .before .before .before .before .largest .ensures) (c .before .before .before .before .before .before .before .before .before .before .before .before .before .before .before .before .before .before .before .before .lacks .ensures) (c .before .before .before .before .before .before .before .before .before .before .before .spare-all .ensures) (c .before .before .before .before .pad-all .ensures)
+returns c = padded-of (c .before .before .before .before .before .before .before .before .before .before .before .before .before .before .before .before .load .ensures) (c .before .before .before .before .before .before .before .before .before .before .before .before .before .before .before .before .before .before .before .before .before .before .before .before .before .before .line-sums .ensures) (c .before .before .before .before .before .before .before .before .before .before .before .before .before .before .before .before .before .before .before .before .before .before .largest .ensures) (c .before .before .before .before .before .before .before .before .before .before .before .before .before .before .before .before .before .before .before .before .lacks .ensures) (c .before .before .before .before .before .before .before .before .before .before .before .spare-all .ensures) (c .before .before .before .before .stairs .ensures)
 
 pub pad-with-spec : {M : Type 1} → statement M
 pad-with-spec =
@@ -41,7 +41,7 @@ pad-with-spec =
     lacks-requires
     load-requires
     spare-all-requires
-    pad-all-requires
+    stairs-requires
     same-length
     same-length-2
     returns)
