@@ -1,2 +1,3 @@
 -- The laws of the two matrices in one table.
 pub mod CellLaws
+pub mod Examples

@@ -1,2 +1,3 @@
 -- The laws of counting.
 pub mod ChangeLaws
+pub mod Examples

@@ -3,3 +3,4 @@ pub mod HalfLaws
 pub mod HearLaws
 pub mod TakeLaws
 pub mod TurnLaws
+pub mod Examples

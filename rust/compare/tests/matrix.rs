@@ -16,6 +16,16 @@ fn program() -> PathBuf {
     env::var_os("GYODAEBEUN_MATRIX").map_or_else(built_here, PathBuf::from)
 }
 
+/// Runs the program, by an emulator where the environment names one.
+fn command() -> Command {
+    let Some(emulator) = env::var_os("GYODAEBEUN_EMULATOR") else {
+        return Command::new(program());
+    };
+    let mut command = Command::new(emulator);
+    command.arg(program());
+    command
+}
+
 fn built_here() -> PathBuf {
     let repository = Path::new(env!("CARGO_MANIFEST_DIR")).ancestors().nth(2);
     let program = repository
@@ -27,7 +37,7 @@ fn built_here() -> PathBuf {
 
 /// What the program prints of an input, which is handed over in pieces of this size.
 fn printed(input: &[u8], piece: usize) -> Vec<u8> {
-    let mut child = Command::new(program())
+    let mut child = command()
         .stdin(Stdio::piped())
         .stdout(Stdio::piped())
         .spawn()
