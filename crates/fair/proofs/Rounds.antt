@@ -10,7 +10,8 @@ use Rattle.sums.proofs.Sums.{sum-most}
 use Rattle.sums.proofs.Tables.{length-square, square-cell, square-same, tab-square}
 use Rattle.sums.proofs.Fills.{tab-whole}
 use Rattle.star.specs.Tables.{Demands}
-use Rattle.star.specs.Lines.{onLine, lineSum, Summed}
+use Rattle.star.specs.Lines.{onLine, lineSum}
+use Rattle.star.specs.LineSums.{Summed}
 use Rattle.star.proofs.LineLaws.{on-line-most, demands-below}
 use Rattle.fair.specs.Fair.{taken, cutLine, step, steps, uncut, fairKept}
 use Rattle.fair.specs.Cuts.{cutting, Counted, Sound, Comparable, Next, CanCutLine, LineCut, CanCutAll, CanCutExactly}

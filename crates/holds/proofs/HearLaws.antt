@@ -1,7 +1,7 @@
 -- What is heard of a pair and for how long, and of all pairs, one destination after the other. The laws assume nothing.
 use mathlib.Core.Path.{_≡_, refl, sym, ap, _∙_}
 use mathlib.Core.List.{List}
-use Prim.Native.Nat.{ℕ, _+_, _-_, _≤_, _<_}
+use Prim.Native.Nat.{ℕ, _+_, _-_, _≤_, _<_, min}
 use native.Mathlib.Omega.{arith}
 use borrow.Author.Count.{below-more}
 use borrow.Author.Tests.{lt-ltb, le-ltb}
@@ -74,23 +74,13 @@ module _ {n : ℕ} {table source bytes0 bytes : List ℕ} {most h j : ℕ} (c : 
       set-more (λ u. heardFrom (cell n (paddedIn table) (getD source u 0) u) (cell n (keptIn table) (getD source u 0) u) (getD source u 0)) bytes j x
       (omega (arith, g .len, c .outs)) heard-here (g .says)
 
-  pub hear-keep : h ≤ y → Hearing n table source bytes0 (set bytes j x) most h (j + 1)
-  hear-keep le = record {
+  pub hear-step : {least : ℕ} → least ≡ min h y → Hearing n table source bytes0 (set bytes j x) most least (j + 1)
+  hear-step {least} e = record {
     upto = omega arith;
     len = length-set bytes j x ∙ g .len;
-    some = g .some;
-    within = g .within;
-    lasts = below-more (λ (u : ℕ). h ≤ lasting (cell n (paddedIn table) (getD source u 0) u) (cell n (keptIn table) (getD source u 0) u)) j (g .lasts) (omega (arith, lasts-here));
-    says = says-more;
-  }
-
-  pub hear-less : y < h → Hearing n table source bytes0 (set bytes j x) most y (j + 1)
-  hear-less lt = record {
-    upto = omega arith;
-    len = length-set bytes j x ∙ g .len;
-    some = y-some;
+    some = omega (arith, g .some, y-some);
     within = omega (arith, g .within);
-    lasts = below-more (λ (u : ℕ). y ≤ lasting (cell n (paddedIn table) (getD source u 0) u) (cell n (keptIn table) (getD source u 0) u)) j
+    lasts = below-more (λ (u : ℕ). least ≤ lasting (cell n (paddedIn table) (getD source u 0) u) (cell n (keptIn table) (getD source u 0) u)) j
         (λ u hu. omega (arith, g .lasts u hu)) (omega (arith, lasts-here));
     says = says-more;
   }

@@ -1,5 +1,6 @@
 // The pairs that still get at least `level` slots. Any level from 1 on is right; a high one holds each pairing for long.
-use arrays::lists;
+use star::numbers::larger;
+use star::numbers::smaller;
 ghost use Prim.Native.Nat.{_<_, _≤_};
 ghost use lib.ListN.{length};
 ghost use Rattle.star.specs.Tables.{Square};
@@ -26,12 +27,8 @@ fn row_most(n: usize, table: &[u32], i: usize) -> u32
     let mut most: u32 = 0;
     let mut j = 0;
     while j < n {
-        let x = cells::padded(n, table, i, j);
+        most = larger(most, cells::padded(n, table, i, j));
         j += 1;
-        if x <= most {
-            continue;
-        }
-        most = x;
     }
     most
 }
@@ -44,17 +41,10 @@ pub fn start(n: usize, table: &[u32]) -> u32
     let mut level: u32 = 65535;
     let mut i = 0;
     while i < n {
-        let x = row_most(n, table, i);
+        level = smaller(level, row_most(n, table, i));
         i += 1;
-        if x >= level {
-            continue;
-        }
-        level = x;
     }
-    if level < 1 {
-        return 1;
-    }
-    level
+    larger(level, 1)
 }
 
 // Source i, node `bit` of the half, joins the sets of the destinations that may hear it.

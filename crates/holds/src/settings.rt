@@ -1,6 +1,7 @@
 // What a pairing of all sources and destinations sets the switch to, and for how long. A pair is idle first and due then: where it still gets
 // more slots than it keeps, what is more is idle.
 use arrays::lists;
+use star::numbers::smaller;
 ghost use mathlib.Core.Path.{_≡_};
 ghost use Rattle.holds.specs.Holds.{lasting, heardFrom, CanHear, Hears};
 
@@ -36,12 +37,8 @@ pub fn hear(n: usize, table: &[u32], source: &[u8], bytes: &mut [u8], most: u32)
         let padded = cells::padded(n, table, i, j);
         let kept = cells::kept(n, table, i, j);
         lists::put_byte(bytes, j, heard_of(padded, kept, i));
-        let lasts = lasting_of(padded, kept);
+        h = smaller(h, lasting_of(padded, kept));
         j += 1;
-        if lasts >= h {
-            continue;
-        }
-        h = lasts;
     }
     h
 }

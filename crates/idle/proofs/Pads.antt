@@ -15,7 +15,8 @@ use Rattle.sums.proofs.Cases.{by-eq, by-lt}
 use Rattle.sums.proofs.Fills.{set-more}
 use Rattle.sums.proofs.Tables.{cell-lt, set-here, set-row, set-col}
 use Rattle.star.specs.Tables.{Square, Demands}
-use Rattle.star.specs.Lines.{lineSum, Summed}
+use Rattle.star.specs.Lines.{lineSum}
+use Rattle.star.specs.LineSums.{Summed}
 use Rattle.star.proofs.LineLaws.{total-rows, total-columns, line-ext, cell-in-row}
 use Rattle.arrays.proofs.Stores.{square-kept}
 use Rattle.cells.specs.Cells.{paddedIn, Gave}

@@ -1,14 +1,7 @@
 // A set of up to 64 nodes as one number: node i is in it where binary digit i is 1. The only bit arithmetic of the planner;
 // every contract speaks of members alone.
 ghost use Prim.Native.Nat.{_<_};
-ghost use Rattle.nodes.specs.Sets.{None, All, With, WithWhere, Without, Both, Minus, First, Joined};
-
-// The set of no node.
-pub fn none() -> u64
-    ensures { λ r. ⌜ None r ⌝ }
-{
-    0
-}
+ghost use Rattle.nodes.specs.Sets.{All, With, WithWhere, Without, Both, Minus, First, Joined};
 
 // The set of all 64 nodes.
 pub fn all() -> u64
@@ -25,16 +18,8 @@ pub fn with(s: u64, i: usize) -> u64
     s | (1 << i)
 }
 
-// The set with node i where the test holds, and else as it is. It is a choice, so that in a loop over other things the compiler makes
-// the set of node i once.
-pub fn with_where(s: u64, i: usize, test: bool) -> u64
-    requires { ⌜ i < 64 ⌝ }
-    ensures { λ r. ⌜ WithWhere s i test r ⌝ }
-{
-    if test { s | (1 << i) } else { s }
-}
-
-// The same for a half, a set of up to 32 nodes, of which the machine takes four at a time.
+// The half with node i where the test holds, and else as it is. A half is a set of up to 32 nodes, of which the machine takes four at a time; the
+// answer is a choice, so that in a loop over other things the compiler makes the set of node i once.
 pub fn half_with_where(half: u32, i: usize, test: bool) -> u32
     requires { ⌜ i < 32 ⌝ }
     ensures { λ r. ⌜ WithWhere half i test r ⌝ }

@@ -13,7 +13,8 @@ use Rattle.sums.proofs.Cases.{by-eq, by-lt}
 use Rattle.sums.proofs.Tables.{cell-lt}
 use Rattle.sums.proofs.Fills.{set-more}
 use Rattle.star.specs.Tables.{Demands}
-use Rattle.star.specs.Lines.{lineSum, Summed, Unsummed, SummedTo}
+use Rattle.star.specs.Lines.{lineSum}
+use Rattle.star.specs.LineSums.{Summed, Unsummed, SummedTo}
 use Rattle.star.proofs.LineLaws.{column-sum}
 
 -- a demand is at most 65,535

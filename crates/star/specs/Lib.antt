@@ -1,6 +1,7 @@
--- Document 01's words: tables, lines and slacks, refusals, schedules.
+-- Document 01's words: tables, lines and slacks, refusals, schedules; and the sums of all lines.
 pub mod Tables
 pub mod Lines
+pub mod LineSums
 pub mod Refusals
 pub mod Checks
 pub mod Schedules

@@ -1,6 +1,5 @@
 -- Lines and slack. `n` is N, `cap` a table with the capacity of each of the 2N lines in line order, `d` a matrix of n * n cells.
 use Prim.Native.Nat.{ℕ, suc, _+_, _-_, _*_, _≤_, _<_}
-use mathlib.Core.Path.{_≡_}
 use mathlib.Core.Bool.{Bool, true, false, cond, _&&_}
 use mathlib.Core.List.{List}
 use lib.ListN.{getD, replicate}
@@ -66,17 +65,3 @@ critical n cap d i j = overflows n cap d i && overflows n cap d (n + j)
 -- A matrix is admissible: no line above L (its capacity).
 pub record Admissible (n : ℕ) (cap k : List ℕ) : Type 0 where
   pub lines : (ℓ : ℕ) → ℓ < 2 * n → lineSum n k ℓ ≤ getD cap ℓ 0
-
--- ---- the sums of all lines, in line order
-pub record Summed (n : ℕ) (table sums : List ℕ) : Type 0 where
-  pub lines : (ℓ : ℕ) → ℓ < 2 * n → getD sums ℓ 0 ≡ lineSum n table ℓ
-
--- the first m columns have no sum yet
-pub record Unsummed (n : ℕ) (sums : List ℕ) (m : ℕ) : Type 0 where
-  pub columns : (v : ℕ) → v < m → getD sums (n + v) 0 ≡ 0
-
--- the rows before row i are summed, and of row i the cells before column j are in their columns' sums
-pub record SummedTo (n : ℕ) (table sums : List ℕ) (i j : ℕ) : Type 0 where
-  pub rows : (u : ℕ) → u < i → getD sums u 0 ≡ lineSum n table u
-  pub passed : (v : ℕ) → v < j → getD sums (n + v) 0 ≡ sumTo (i + 1) (λ u. cell n table u v)
-  pub ahead : (v : ℕ) → j ≤ v → v < n → getD sums (n + v) 0 ≡ sumTo i (λ u. cell n table u v)

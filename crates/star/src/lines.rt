@@ -7,7 +7,8 @@ ghost use lib.ListN.{length, set};
 ghost use lib.IntN.{subℕ};
 ghost use lib.Signed.{mag};
 ghost use Rattle.star.specs.Tables.{Square, Demands};
-ghost use Rattle.star.specs.Lines.{sourceOn, destinationOn, crossing, onLine, lineSum, excessOf, Summed, Unsummed, SummedTo};
+ghost use Rattle.star.specs.Lines.{sourceOn, destinationOn, crossing, onLine, lineSum, excessOf};
+ghost use Rattle.star.specs.LineSums.{Summed, Unsummed, SummedTo};
 ghost use Rattle.star.specs.Refusals.{firstAbove};
 
 // The line that crosses a line at its t-th pair.

@@ -16,20 +16,17 @@ loop-holds c = omega arith
 padded-requires : tie.Need-padded-requires Inv-loop μ-loop
 padded-requires c κs = (c .before .before .before .pre .0, (c .before .before .before .pre .1, c .loop-test .taken))
 
+larger-requires : tie.Need-larger-requires Inv-loop μ-loop
+larger-requires c κs = tt
+
 add-j : tie.Need-add-j Inv-loop μ-loop
-add-j c = omega (arith, c .before .before .before .before .pre .0 .nodes)
+add-j c = omega (arith, c .before .before .before .before .before .pre .0 .nodes)
 
 loop-less : tie.Need-loop-less Inv-loop μ-loop
 loop-less c = omega arith
 
 loop-again : tie.Need-loop-again Inv-loop μ-loop
-loop-again c = omega arith
-
-loop-less-2 : tie.Need-loop-less-2 Inv-loop μ-loop
-loop-less-2 c = omega arith
-
-loop-again-2 : tie.Need-loop-again-2 Inv-loop μ-loop
-loop-again-2 c = omega (arith, c .before .padded .ensures .1)
+loop-again c = omega (arith, c .before .padded .ensures .1, c .larger .ensures)
 
 returns : tie.Need-returns Inv-loop μ-loop
 returns c = omega arith
@@ -42,9 +39,8 @@ row-most-spec =
     μ-loop
     loop-holds
     padded-requires
+    larger-requires
     add-j
     loop-less
     loop-again
-    loop-less-2
-    loop-again-2
     returns)

@@ -1,6 +1,7 @@
 -- `holds::levels::start` meets its contract: a number below 65,536 that is made at least 1. Assumes nothing.
 use Prim.Native.Nat.{_≤_, _<_, _-_}
 use native.Mathlib.Omega.{arith}
+use Rattle.holds.proofs.levels.row_most.Reads as row-most-reads
 use Rattle.holds.proofs.levels.start.Statement.{statement}
 use Rattle.holds.proofs.levels.start.Tie as tie
 
@@ -16,26 +17,23 @@ loop-holds c = omega arith
 row-most-requires : tie.Need-row-most-requires Inv-loop μ-loop
 row-most-requires c κs = (c .before .before .before .pre, c .loop-test .taken)
 
+smaller-requires : tie.Need-smaller-requires Inv-loop μ-loop
+smaller-requires c κs = tt
+
 add-i : tie.Need-add-i Inv-loop μ-loop
-add-i c = omega (arith, c .before .before .before .before .pre .nodes)
+add-i c = omega (arith, c .before .before .before .before .before .pre .nodes)
 
 loop-less : tie.Need-loop-less Inv-loop μ-loop
 loop-less c = omega arith
 
 loop-again : tie.Need-loop-again Inv-loop μ-loop
-loop-again c = omega arith
+loop-again c = omega (arith, c .before .row-most .ensures, c .smaller .ensures)
 
-loop-less-2 : tie.Need-loop-less-2 Inv-loop μ-loop
-loop-less-2 c = omega arith
-
-loop-again-2 : tie.Need-loop-again-2 Inv-loop μ-loop
-loop-again-2 c = omega arith
+larger-requires : tie.Need-larger-requires Inv-loop μ-loop
+larger-requires c κs = tt
 
 returns : tie.Need-returns Inv-loop μ-loop
-returns c = omega arith
-
-returns-2 : tie.Need-returns-2 Inv-loop μ-loop
-returns-2 c = omega arith
+returns c = omega (arith, c .larger .ensures, c .before .before .loop .inv .1)
 
 pub start-spec : {M : Type 1} → statement M
 start-spec =
@@ -45,10 +43,9 @@ start-spec =
     μ-loop
     loop-holds
     row-most-requires
+    smaller-requires
     add-i
     loop-less
     loop-again
-    loop-less-2
-    loop-again-2
-    returns
-    returns-2)
+    larger-requires
+    returns)

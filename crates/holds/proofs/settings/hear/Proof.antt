@@ -1,8 +1,10 @@
 -- `holds::settings::hear` meets its contract: the bytes of the destinations passed are as defined, and each lasts for h slots. Assumes nothing.
 use Prim.Native.Nat.{_-_}
 use native.Mathlib.Omega.{arith}
-use borrow.Author.Needs.{needs}
-use Rattle.holds.proofs.HearLaws.{Hearing, hear-start, hear-keep, hear-less, hear-end, heard-byte}
+use Rattle.holds.proofs.HearLaws.{Hearing, hear-start, hear-step, hear-end, heard-byte}
+use Rattle.arrays.proofs.lists.put_byte.Reads as put-byte-reads
+use Rattle.holds.proofs.settings.heard_of.Reads as heard-of-reads
+use Rattle.holds.proofs.settings.lasting_of.Reads as lasting-of-reads
 use Rattle.holds.proofs.settings.hear.Statement.{statement}
 use Rattle.holds.proofs.settings.hear.Tie as tie
 
@@ -25,28 +27,25 @@ kept-requires : tie.Need-kept-requires Inv-loop μ-loop
 kept-requires c κs = (c .before .before .before .before .before .before .before .pre .table-room, (omega (arith, c .before .byte .ensures .0, c .before .before .before .before .before .before .before .pre .full (c .before .before .before .loop .j) (c .before .before .loop-test .taken)), c .before .before .loop-test .taken))
 
 heard-of-requires : tie.Need-heard-of-requires Inv-loop μ-loop
-heard-of-requires c κs = search needs
+heard-of-requires c κs = tt
 
 put-byte-requires : tie.Need-put-byte-requires Inv-loop μ-loop
 put-byte-requires c κs = (omega (arith, c .before .before .before .before .before .before .before .before .before .before .pre .outs, c .before .before .before .before .before .before .loop .inv .len), omega (arith, c .heard-of .ensures, heard-byte (c .before .before .before .padded .result) (c .before .before .kept .result) (c .before .before .before .before .byte .result) (c .before .before .before .before .byte .ensures .1)))
 
 lasting-of-requires : tie.Need-lasting-of-requires Inv-loop μ-loop
-lasting-of-requires c κs = search needs
+lasting-of-requires c κs = tt
+
+smaller-requires : tie.Need-smaller-requires Inv-loop μ-loop
+smaller-requires c κs = tt
 
 add-j : tie.Need-add-j Inv-loop μ-loop
-add-j c = omega (arith, c .before .before .before .before .before .before .before .before .before .before .before .before .before .before .pre .table-room .nodes)
+add-j c = omega (arith, c .before .before .before .before .before .before .before .before .before .before .before .before .before .before .before .pre .table-room .nodes)
 
 loop-less : tie.Need-loop-less Inv-loop μ-loop
 loop-less c = omega arith
 
 loop-again : tie.Need-loop-again Inv-loop μ-loop
-loop-again c = rw (c .before .before .before .before .put-byte .ensures) (hear-keep (c .before .before .before .before .before .before .before .before .before .before .before .before .before .before .before .pre) (c .before .before .before .before .before .before .before .before .before .before .before .loop .inv) (c .before .before .before .before .before .before .before .before .before .before .loop-test .taken) (c .before .before .before .before .before .before .before .before .before .byte .ensures .0) (c .before .before .before .before .before .before .before .before .padded .ensures .0) (c .before .before .before .before .before .before .before .kept .ensures .0) (c .before .before .before .before .before .heard-of .ensures) (c .before .lasting-of .ensures) (c .if1 .taken))
-
-loop-less-2 : tie.Need-loop-less-2 Inv-loop μ-loop
-loop-less-2 c = omega arith
-
-loop-again-2 : tie.Need-loop-again-2 Inv-loop μ-loop
-loop-again-2 c = rw (c .before .before .before .before .put-byte .ensures) (hear-less (c .before .before .before .before .before .before .before .before .before .before .before .before .before .before .before .pre) (c .before .before .before .before .before .before .before .before .before .before .before .loop .inv) (c .before .before .before .before .before .before .before .before .before .before .loop-test .taken) (c .before .before .before .before .before .before .before .before .before .byte .ensures .0) (c .before .before .before .before .before .before .before .before .padded .ensures .0) (c .before .before .before .before .before .before .before .kept .ensures .0) (c .before .before .before .before .before .heard-of .ensures) (c .before .lasting-of .ensures) (c .if1 .left))
+loop-again c = rw (c .before .before .before .before .put-byte .ensures) (hear-step (c .before .before .before .before .before .before .before .before .before .before .before .before .before .before .before .pre) (c .before .before .before .before .before .before .before .before .before .before .before .loop .inv) (c .before .before .before .before .before .before .before .before .before .before .loop-test .taken) (c .before .before .before .before .before .before .before .before .before .byte .ensures .0) (c .before .before .before .before .before .before .before .before .padded .ensures .0) (c .before .before .before .before .before .before .before .kept .ensures .0) (c .before .before .before .before .before .heard-of .ensures) (c .before .lasting-of .ensures) (c .smaller .ensures))
 
 same-length : tie.Need-same-length Inv-loop μ-loop
 same-length c = c .before .loop .inv .len
@@ -67,10 +66,9 @@ hear-spec =
     heard-of-requires
     put-byte-requires
     lasting-of-requires
+    smaller-requires
     add-j
     loop-less
     loop-again
-    loop-less-2
-    loop-again-2
     same-length
     returns)

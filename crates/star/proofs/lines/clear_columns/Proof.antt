@@ -3,7 +3,7 @@ use Prim.Native.Nat.{_≤_, _-_}
 use native.Mathlib.Omega.{arith}
 use mathlib.Core.Path.{_≡_, refl}
 use lib.ListN.{length, length-set}
-use Rattle.star.specs.Lines.{Unsummed}
+use Rattle.star.specs.LineSums.{Unsummed}
 use Rattle.star.proofs.SumLaws.{unsummed-more}
 use Rattle.star.proofs.lines.clear_columns.Statement.{statement}
 use Rattle.star.proofs.lines.clear_columns.Tie as tie

@@ -3,7 +3,7 @@ use Prim.Native.Nat.{_≤_, _-_}
 use native.Mathlib.Omega.{arith}
 use mathlib.Core.Path.{_≡_, refl, _∙_}
 use lib.ListN.{length, length-set}
-use Rattle.star.specs.Lines.{SummedTo}
+use Rattle.star.specs.LineSums.{SummedTo}
 use Rattle.star.proofs.SumLaws.{summed-none, summed-row, summed-all}
 use Rattle.star.proofs.lines.line_sums.Statement.{statement}
 use Rattle.star.proofs.lines.line_sums.Tie as tie

@@ -3,7 +3,7 @@ use Prim.Native.Nat.{_≤_, _-_}
 use native.Mathlib.Omega.{arith}
 use mathlib.Core.Path.{_≡_, refl, sym, _∙_}
 use lib.ListN.{length, length-set}
-use Rattle.star.specs.Lines.{SummedTo}
+use Rattle.star.specs.LineSums.{SummedTo}
 use Rattle.sums.proofs.Sums.{sum-none, sum-more, sum-done}
 use Rattle.sums.specs.Tables.{cell}
 use Rattle.sums.specs.Sums.{sumTo}
