@@ -55,11 +55,4 @@ unsafe extern "C" {
         schedule: *mut u8,
         schedule_length: usize,
     ) -> u32;
-
-    pub fn lab_reconfigurations(
-        n: usize,
-        l: usize,
-        schedule: *const u8,
-        schedule_length: usize,
-    ) -> u32;
 }
