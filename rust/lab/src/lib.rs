@@ -5,7 +5,7 @@
 //! Tables as everywhere: pair (i,j) is cell i×N+j, lines 0 to N−1 are the rows, line N+j is column
 //! j. A longer table than needed is accepted; its extra cells are neither read nor changed.
 
-mod raw;
+pub mod raw;
 
 /// The slots that each pair keeps under the fair rule, from its demands and the capacities of the
 /// 2N lines.

@@ -1,4 +1,4 @@
-//! The C interface of the archive.
+//! The C interface of the archive. What a layer asks of its callers is not tested here.
 
 unsafe extern "C" {
     pub fn lab_fair_cut(
