@@ -1,10 +1,9 @@
--- Counting reconfigurations: a slot is compared destination by destination, and the count so far is the sum of the definition. The laws assume nothing.
+-- Reconfigurations: a slot is compared destination by destination, and a setting adds at most one to those of the slots before it. The laws assume nothing.
 use mathlib.Core.Path.{_≡_, refl, sym, ap, _∙_}
-use mathlib.Core.Bool.{Bool, true, false, not, _||_}
+use mathlib.Core.Bool.{Bool, true, false, not}
 use mathlib.Core.List.{List}
 use Prim.Native.Nat.{ℕ, zero, suc, _+_, _-_, _*_, _≤_, _<_}
 use native.Mathlib.Omega.{arith}
-use native.Mathlib.Numerals.{add-one}
 use borrow.Author.Count.{below-more}
 use borrow.Author.Tests.{eq-eqb, ne-eqb}
 use lib.Dec.{eqb}
@@ -34,28 +33,6 @@ pub differ-none : {n : ℕ} {one : List ℕ} {k : ℕ} {other : List ℕ} {m j :
 unfolding differ
 differ-none {n} {one} {k} {other} {m} g le =
     sym (some-none (λ u. not (eqb (cell n one k u) (cell n other m u))) n (λ u hu. ap not (eq-eqb (cell n one k u) (cell n other m u) (g .all u (omega arith)))))
-
--- the count over the slots before k
-pub record Counting (n l : ℕ) (s : List ℕ) (count k : ℕ) : Type 0 where
-  pub upto : k ≤ l - 1
-  pub small : count ≤ k
-  pub sum : count ≡ sumTo k (λ q. bit (differ n s q s (suc q)))
-
-pub count-start : (n l : ℕ) (s : List ℕ) → Counting n l s 0 0
-count-start n l s = record { upto = omega arith; small = omega arith; sum = sym (sum-none (λ q. bit (differ n s q s (suc q)))) }
-
-pub count-step : {n l : ℕ} {s : List ℕ} {count k : ℕ} (b : Bool) {more : ℕ} → Counting n l s count k → k + 1 < l → b ≡ differ n s k s (k + 1) → more ≡ count + bit b → Counting n l s more (k + 1)
-count-step {n} {l} {s} {count} {k} b {more} g lt e em =
-    let here : bit b ≡ bit (differ n s k s (suc k)) = ap bit (e ∙ ap (differ n s k s) (add-one k)) in
-    record {
-      upto = omega arith;
-      small = omega (arith, g .small, bit-most b);
-      sum = omega (arith, g .sum, sum-more k (λ q. bit (differ n s q s (suc q))));
-    }
-
-pub count-end : {n l : ℕ} {s : List ℕ} {count k : ℕ} → Counting n l s count k → l ≤ k + 1 → count ≡ reconfigurations n l s
-unfolding reconfigurations
-count-end {n} {l} {s} {k = k} g le = let e : k ≡ l - 1 = omega (arith, g .upto) in g .sum ∙ ap (λ (x : ℕ). sumTo x (λ q. bit (differ n s q s (suc q)))) e
 
 -- ---- a setting written from slot t on
 some-ext : (m : ℕ) (f g : ℕ → Bool) → ((q : ℕ) → q < m → f q ≡ g q) → someBelow m f ≡ someBelow m g

@@ -1,14 +1,14 @@
-// Reconfigurations: neighbouring slots that differ for some destination, idle being a value like any other.
+// Reconfigurations, neighbouring slots that differ for some destination, idle being a value like any other: what a setting adds to them.
 use arrays::frames;
 ghost use mathlib.Core.Path.{_≡_};
 ghost use Prim.Native.Nat.{_≤_};
 ghost use lib.ListN.{length};
-ghost use Rattle.star.specs.Schedules.{differ, reconfigurations};
+ghost use Rattle.star.specs.Schedules.{differ};
 ghost use Rattle.arrays.specs.Arrays.{Frame, Slot};
 ghost use Rattle.changes.specs.Changes.{changeAt};
 
 // Whether slot k of one schedule and slot m of another differ for some destination. A setting is a schedule of one slot.
-pub fn differs(n: usize, one: &[u8], k: usize, other: &[u8], m: usize) -> bool
+fn differs(n: usize, one: &[u8], k: usize, other: &[u8], m: usize) -> bool
     requires { ⌜ (n ≤ 64) × (Slot n (now one) k) × (Slot n (now other) m) ⌝ }
     ensures { λ r. ⌜ r ≡ differ n (now (one .entry)) k (now (other .entry)) m ⌝ }
 {
@@ -34,22 +34,4 @@ pub fn change(n: usize, schedule: &[u8], t: usize, setting: &[u8]) -> u32
         return 1;
     }
     0
-}
-
-// The number of k from 0 to L−2 at which slot k and slot k+1 differ.
-pub fn reconfigurations(nodes: usize, slots: usize, schedule: &[u8]) -> u32
-    requires { ⌜ Frame nodes slots (now schedule) ⌝ }
-    ensures { λ r. ⌜ r ≡ reconfigurations nodes slots (now (schedule .entry)) ⌝ }
-{
-    let mut count: u32 = 0;
-    let mut k = 0;
-    while k + 1 < slots {
-        if differs(nodes, schedule, k, schedule, k + 1) {
-            count += 1;
-            k += 1;
-            continue;
-        }
-        k += 1;
-    }
-    count
 }

@@ -3,8 +3,6 @@
 ghost use mathlib.Core.Path.{_≡_};
 ghost use Prim.Native.Nat.{_*_};
 ghost use Rattle.sums.specs.Tables.{written};
-ghost use Rattle.star.specs.Schedules.{reconfigurations};
-ghost use Rattle.arrays.specs.Arrays.{Frame};
 ghost use Rattle.slots.specs.Places.{CanPlace, Places};
 ghost use Rattle.fair.specs.Fair.{fairKept};
 ghost use Rattle.fair.specs.Cuts.{CanCut};
@@ -73,13 +71,4 @@ pub extern "C" fn lab_place(n: usize, l: usize, kept: &mut [u32], schedule: &mut
     ensures { λ changes. ⌜ Places n l (now (kept .entry)) (now (schedule .entry)) (now (kept .exit)) (now (schedule .exit)) changes ⌝ }
 {
     slots::placing::place(n, l, kept, schedule)
-}
-
-// `changes::reconfigurations`.
-#[no_mangle]
-pub extern "C" fn lab_reconfigurations(n: usize, l: usize, schedule: &[u8]) -> u32
-    requires { ⌜ Frame n l (now schedule) ⌝ }
-    ensures { λ r. ⌜ r ≡ reconfigurations n l (now (schedule .entry)) ⌝ }
-{
-    changes::reconfigurations(n, l, schedule)
 }

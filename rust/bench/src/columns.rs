@@ -193,8 +193,8 @@ pub const KEPT: [Column; 4] = [
     }),
 ];
 
-/// From the kept matrix to a schedule; and, of the least rule's, the count of reconfigurations.
-pub const PLACEMENT: [Column; 5] = [
+/// From the kept matrix to a schedule; the library counts its reconfigurations too.
+pub const PLACEMENT: [Column; 4] = [
     Column::new(Program::Library, "least, library", |w| {
         lab::place(w.n, w.slots, &mut w.least.kept, &mut w.least.schedule);
     }),
@@ -207,12 +207,10 @@ pub const PLACEMENT: [Column; 5] = [
     Column::new(Program::Second, "fair, second", |w| {
         w.second.schedule = schedule::place(&w.second.fair, w.slots);
     }),
-    Column::new(Program::Library, "count, library", |w| {
-        lab::reconfigurations(w.n, w.slots, &w.least.schedule);
-    }),
 ];
 
-/// The entry `plan`: its checks, the steps above, and the count of reconfigurations.
+/// The entry `plan`: its checks, the steps above and, in the second program, the count of
+/// reconfigurations.
 pub const PLAN: [Column; 4] = [
     Column::new(Program::Library, "least, library", |w| {
         plan(w.n, w.slots, LEAST, &w.demand, &mut w.least);

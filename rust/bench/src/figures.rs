@@ -1,4 +1,4 @@
-//! Two figures for many measurements, and tables of them.
+//! Two figures for many measurements, and tables of them and of plain numbers.
 
 /// The median and the worst.
 pub struct Figures {
@@ -33,4 +33,10 @@ pub fn print_row(name: &str, figures: impl Iterator<Item = Option<Figures>>, dec
         }
     }
     println!();
+}
+
+/// One number below each title.
+pub fn print_numbers(name: &str, numbers: impl Iterator<Item = usize>) {
+    let numbers: String = numbers.map(|number| format!("{number:>20}")).collect();
+    println!("{name:<22}{numbers}");
 }

@@ -1,5 +1,5 @@
 //! How long the proved planner takes, step by step, and beside it the second program and, where it
-//! is installed, LEMON.
+//! is installed, LEMON; and how much stack the library takes.
 //!
 //! Demands are drawn from a fixed seed. A step of the library, and LEMON, is called five times on
 //! the same tables, which hold what the call before left in them, and the fastest call counts; the
@@ -11,7 +11,8 @@ mod figures;
 mod lemon;
 
 use columns::{CHANGES, Column, Count, FLOW, KEPT, PLACEMENT, PLAN, Program, Work};
-use figures::{Figures, print_header, print_row};
+use compare::calls::{CALLS, Taken};
+use figures::{Figures, print_header, print_numbers, print_row};
 use second::inputs::{FAMILIES, Family, Random};
 
 const SEED: u64 = 1;
@@ -36,6 +37,7 @@ fn main() {
     );
     let mut families = by_family(64, 1_024);
     print_times("N 64, L 1,024", "family", &mut families, |_| true);
+    print_stack("N 64, L 1,024");
     print_changes("N 64, L 1,024", "family", &families);
     let mut sizes = by_size();
     let quick = |column: &Column| column.program != Program::Second;
@@ -87,6 +89,16 @@ fn print_times(which: &str, named: &str, rows: &mut [Row], shown: fn(&Column) ->
         for (name, works) in &mut *rows {
             print_row(name, columns().map(|column| timed(column, works)), 1);
         }
+    }
+}
+
+/// What each call takes on the demands of all families: the least and the most.
+fn print_stack(which: &str) {
+    println!("\n{which}: stack in bytes");
+    print_header("call", ["least", "most"].into_iter());
+    for call in CALLS {
+        let Taken { least, most, .. } = call.stack_taken(&mut Random::seeded(SEED), DEMANDS);
+        print_numbers(call.name, [least, most].into_iter());
     }
 }
 

@@ -1,6 +1,8 @@
 //! What the comparisons share: lent tables whose surroundings are watched, answers that both
-//! programs give in their own words, stars for the inner layers, and the parties to a run.
+//! programs give in their own words, stars for the inner layers, the parties to a run, and calls
+//! whose stack is measured.
 
+pub mod calls;
 pub mod run;
 
 use second::inputs::{FAMILIES, Random};

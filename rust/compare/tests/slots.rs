@@ -1,5 +1,5 @@
-//! The layers `place` and `reconfigurations` and the second program. Which slots a pair gets is
-//! free; that it gets them, without conflict, is not.
+//! The layer `place` and the second program. Which slots a pair gets is free; that it gets them,
+//! without conflict, is not, nor is the count of reconfigurations.
 
 use compare::{Lent, Star, largest_stars, stars};
 use second::inputs::{Random, family};
@@ -20,19 +20,10 @@ fn placed(random: &mut Random, n: usize, slots: usize, kept: &[u32]) -> usize {
     let conflict_free = schedule::is_conflict_free(n, bytes);
     assert!(conflict_free, "L {slots} {kept:?}");
     assert_eq!(schedule::counts(n, bytes), kept, "L {slots}");
-    let counted = counted(n, slots, bytes);
+    let counted = schedule::reconfigurations(n, bytes);
     assert_eq!(answered, counted, "L {slots} {kept:?}");
     let fewest = schedule::fewest_reconfigurations(&kept, slots);
     assert!(fewest <= counted, "L {slots} {kept:?}");
-    counted
-}
-
-/// The reconfigurations of a schedule, on which both agree.
-#[track_caller]
-fn counted(n: usize, slots: usize, bytes: &[u8]) -> usize {
-    let expected = schedule::reconfigurations(n, &bytes[..slots * n]);
-    let counted = lab::reconfigurations(n, slots, bytes) as usize;
-    assert_eq!(counted, expected, "N {n} L {slots} {bytes:?}");
     counted
 }
 
@@ -137,27 +128,4 @@ fn every_pair_alike() {
             placed(&mut random, n, slots, &vec![v as u32; n * n]);
         }
     }
-}
-
-/// Bytes of any kind, placed by nobody.
-#[test]
-fn reconfigurations_of_any_schedule() {
-    let mut random = Random::announced();
-    for _ in 0..2_000 {
-        let (n, slots) = (random.nodes(), random.slots() as usize);
-        let changes = 1 + random.below(4 * slots * n);
-        let mut bytes = random.bytes(slots * n + 5);
-        for cell in n..slots * n {
-            if !random.one_in(changes) {
-                bytes[cell] = bytes[cell - n];
-            }
-        }
-        counted(n, slots, &bytes);
-    }
-}
-
-#[test]
-fn one_slot_has_nothing_to_change() {
-    assert_eq!(counted(2, 1, &[0, 1, 1, 0]), 0);
-    assert_eq!(counted(2, 2, &[0, 1, 1, 0]), 1);
 }

@@ -1,4 +1,4 @@
-//! The C interface of the archive.
+//! The C interface of the archive. What a layer asks of its callers is not tested here.
 
 unsafe extern "C" {
     pub fn lab_fair_cut(
@@ -53,13 +53,6 @@ unsafe extern "C" {
         kept: *mut u32,
         kept_length: usize,
         schedule: *mut u8,
-        schedule_length: usize,
-    ) -> u32;
-
-    pub fn lab_reconfigurations(
-        n: usize,
-        l: usize,
-        schedule: *const u8,
         schedule_length: usize,
     ) -> u32;
 }

@@ -1,0 +1,242 @@
+//! The library's calls at N 64 and L 1,024, and how much stack each takes: all entries, and placing
+//! by itself. They are made in C, so that nothing of a wrapper is measured.
+
+use gyodaebeun::{Run, raw};
+use second::inputs::{FAMILIES, Random};
+use second::limits::{FAIR, LEAST};
+
+pub const NODES: u32 = 64;
+pub const SLOTS: u32 = 1_024;
+
+const QUEUE_LIMIT: u32 = 65_535;
+const PAIRS: usize = (NODES * NODES) as usize;
+
+/// A call, and the rule under which it is made.
+#[derive(Clone, Copy)]
+pub struct Call {
+    pub name: &'static str,
+    rule: u32,
+    /// Gives a refusal's number, 0 for an accepted call.
+    call: fn(&mut Tables) -> u32,
+}
+
+pub const CALLS: [Call; 9] = [
+    Call::new("slacks", FAIR, slacks),
+    Call::new("plan, fair", FAIR, plan),
+    Call::new("plan, least", LEAST, plan),
+    Call::new("fresh", FAIR, fresh),
+    Call::new("post", FAIR, post),
+    Call::new("frame, fair", FAIR, frame),
+    Call::new("frame, least", LEAST, frame),
+    Call::new("placement, fair", FAIR, place),
+    Call::new("placement, least", LEAST, place),
+];
+
+/// What measuring itself adds to each of them.
+pub const NO_CALL: Call = Call::new("no call", FAIR, |_| 0);
+
+/// The call of this name.
+pub fn call(name: &str) -> Call {
+    let named = CALLS.into_iter().find(|call| call.name == name);
+    named.expect("there is such a call")
+}
+
+/// Bytes of stack, over several demands.
+pub struct Taken {
+    pub least: usize,
+    pub most: usize,
+    /// Whose demand took the most.
+    pub family: &'static str,
+}
+
+impl Call {
+    const fn new(name: &'static str, rule: u32, call: fn(&mut Tables) -> u32) -> Call {
+        Call { name, rule, call }
+    }
+
+    /// The stack that it takes on so many demands of each family.
+    pub fn stack_taken(self, random: &mut Random, demands: usize) -> Taken {
+        let mut taken = Vec::new();
+        for (name, family) in FAMILIES {
+            for _ in 0..demands {
+                let demand = family(random, NODES as usize, SLOTS);
+                taken.push((self.stack_taken_on(demand), name));
+            }
+        }
+        let (least, _) = *taken.iter().min().expect("there are demands");
+        let (most, family) = *taken.iter().max().expect("there are demands");
+        Taken {
+            least,
+            most,
+            family,
+        }
+    }
+
+    fn stack_taken_on(self, demand: Vec<u32>) -> usize {
+        let mut tables = Tables::asking(demand, self.rule);
+        let mut number = 0;
+        let taken = stack::taken(|| number = (self.call)(&mut tables));
+        assert_eq!(number, 0, "{} was refused", self.name);
+        taken
+    }
+}
+
+/// All that any call is lent, of just the length needed.
+struct Tables {
+    rule: u32,
+    demand: Vec<u32>,
+    slacks: Vec<i32>,
+    run: Run,
+    waiting: Vec<u32>,
+    posted: Vec<u64>,
+    sent: Vec<u64>,
+    dropped: Vec<u64>,
+    kept: Vec<u32>,
+    withdrawn: Vec<u32>,
+    schedule: Vec<u8>,
+}
+
+impl Tables {
+    /// The demand stands in the queues too, after one post, and the rule's plan has been made: the
+    /// kept matrix is there to be placed.
+    fn asking(demand: Vec<u32>, rule: u32) -> Tables {
+        let mut tables = Tables {
+            rule,
+            slacks: vec![0; 2 * NODES as usize],
+            run: Run {
+                nodes: NODES,
+                slots: SLOTS,
+                limit: QUEUE_LIMIT,
+                rule,
+                posts: 1,
+                frames: 0,
+            },
+            waiting: demand.clone(),
+            posted: demand.iter().map(|&v| u64::from(v)).collect(),
+            sent: vec![0; PAIRS],
+            dropped: vec![0; PAIRS],
+            kept: vec![0; PAIRS],
+            withdrawn: vec![0; PAIRS],
+            schedule: vec![0; (SLOTS * NODES) as usize],
+            demand,
+        };
+        assert_eq!(plan(&mut tables), 0, "the plan was refused");
+        tables
+    }
+}
+
+fn slacks(tables: &mut Tables) -> u32 {
+    let mut place = 0;
+    unsafe {
+        raw::gyodaebeun_slacks(
+            NODES,
+            SLOTS,
+            tables.demand.as_ptr(),
+            tables.demand.len(),
+            tables.slacks.as_mut_ptr(),
+            tables.slacks.len(),
+            &mut place,
+        )
+    }
+}
+
+fn plan(tables: &mut Tables) -> u32 {
+    let mut report = [0; 4];
+    unsafe {
+        raw::gyodaebeun_plan(
+            NODES,
+            SLOTS,
+            tables.rule,
+            tables.demand.as_ptr(),
+            tables.demand.len(),
+            tables.kept.as_mut_ptr(),
+            tables.kept.len(),
+            tables.withdrawn.as_mut_ptr(),
+            tables.withdrawn.len(),
+            tables.schedule.as_mut_ptr(),
+            tables.schedule.len(),
+            &mut report,
+        )
+    }
+}
+
+fn fresh(tables: &mut Tables) -> u32 {
+    let mut place = 0;
+    unsafe {
+        raw::gyodaebeun_fresh(
+            &mut tables.run,
+            NODES,
+            SLOTS,
+            QUEUE_LIMIT,
+            tables.rule,
+            tables.waiting.as_mut_ptr(),
+            tables.waiting.len(),
+            tables.posted.as_mut_ptr(),
+            tables.posted.len(),
+            tables.sent.as_mut_ptr(),
+            tables.sent.len(),
+            tables.dropped.as_mut_ptr(),
+            tables.dropped.len(),
+            &mut place,
+        )
+    }
+}
+
+fn post(tables: &mut Tables) -> u32 {
+    let mut place = 0;
+    unsafe {
+        raw::gyodaebeun_post(
+            &mut tables.run,
+            tables.demand.as_ptr(),
+            tables.demand.len(),
+            tables.waiting.as_mut_ptr(),
+            tables.waiting.len(),
+            tables.posted.as_mut_ptr(),
+            tables.posted.len(),
+            tables.sent.as_ptr(),
+            tables.sent.len(),
+            tables.dropped.as_mut_ptr(),
+            tables.dropped.len(),
+            &mut place,
+        )
+    }
+}
+
+fn frame(tables: &mut Tables) -> u32 {
+    let mut report = [0; 4];
+    unsafe {
+        raw::gyodaebeun_frame(
+            &mut tables.run,
+            tables.waiting.as_mut_ptr(),
+            tables.waiting.len(),
+            tables.posted.as_ptr(),
+            tables.posted.len(),
+            tables.sent.as_mut_ptr(),
+            tables.sent.len(),
+            tables.dropped.as_ptr(),
+            tables.dropped.len(),
+            tables.kept.as_mut_ptr(),
+            tables.kept.len(),
+            tables.withdrawn.as_mut_ptr(),
+            tables.withdrawn.len(),
+            tables.schedule.as_mut_ptr(),
+            tables.schedule.len(),
+            &mut report,
+        )
+    }
+}
+
+/// Of what the plan keeps; this call cannot be refused.
+fn place(tables: &mut Tables) -> u32 {
+    unsafe {
+        lab::raw::lab_place(
+            NODES as usize,
+            SLOTS as usize,
+            tables.kept.as_mut_ptr(),
+            tables.kept.len(),
+            tables.schedule.as_mut_ptr(),
+            tables.schedule.len(),
+        );
+    }
+    0
+}
