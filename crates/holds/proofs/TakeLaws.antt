@@ -19,10 +19,10 @@ use Rattle.arrays.proofs.Stores.{square-kept}
 use Rattle.cells.specs.Cells.{paddedIn, keptIn, Took}
 use Rattle.cells.proofs.CellLaws.{padded-length}
 use Rattle.pairs.specs.declared.free.Free.{Free}
-use Rattle.pairs.specs.Pairs.{allowed, taken, Paired, Unpaired, FreeNodes, Rooms}
+use Rattle.pairs.specs.Pairs.{allowed, taken, Paired, Unpaired, FreeNodes}
 use Rattle.holds.specs.Levels.{HeardAt, Level}
-use Rattle.holds.specs.Holds.{Taken, Takes}
-use Rattle.holds.specs.Turns.{Standing, CanTake, Parted}
+use Rattle.holds.specs.Holds.{Taken}
+use Rattle.holds.specs.Turns.{CanTake, Parted}
 
 -- ---- lines
 module _ {n : ℕ} {x y source : List ℕ} {h : ℕ} (d : Taken n x y source h) where

@@ -5,8 +5,6 @@ use crate::settings;
 use arrays::lists;
 use pairs::all::match_all;
 use pairs::free::Free;
-ghost use Prim.Native.Nat.{_≤_};
-ghost use lib.ListN.{length};
 ghost use Rattle.star.specs.Tables.{Square};
 ghost use Rattle.pairs.specs.Pairs.{Rooms};
 ghost use Rattle.holds.specs.Turns.{Begun, CanPair, Ready, CanTake, Parted, CanTurn, Turned};

@@ -60,8 +60,8 @@ spread-start n may destination next sources new j todo = record {
 
 module _ {n : ℕ} {may destination next0 next : List ℕ} {sources new j todo reached left : ℕ}
     (c : CanSpread n may destination next0 sources new j) (g : Spreading n may destination next0 next sources new j todo reached left) {i : ℕ} (f : First left i) where
-  pub spread-none : n ≤ i → Spread n may destination next0 next sources new j todo n reached
-  spread-none le =
+  pub spread-open : n ≤ i → Spread n may destination next0 next sources new j todo n reached
+  spread-open le =
       let all : (u : ℕ) → u < n → member u new ≡ 1 → Moves n may destination next sources j reached u = λ u hu e. g .passed u hu e (f .before u (omega arith)) in
       record {
         met = λ lt. absurd (omega arith);

@@ -11,7 +11,7 @@ use Rattle.sums.specs.Tables.{cell}
 use Rattle.sums.proofs.Sums.{sum-ext, sum-none, sum-run, hit-other}
 use Rattle.sums.proofs.Cases.{by-lt}
 use Rattle.sums.proofs.Tables.{take-cell}
-use Rattle.star.specs.Schedules.{count, Carries, reconfigurations}
+use Rattle.star.specs.Schedules.{count, reconfigurations}
 use Rattle.star.proofs.LineLaws.{line-ext, cell-in-row, capacity}
 use Rattle.arrays.specs.Arrays.{Frame}
 use Rattle.arrays.proofs.Stores.{square-kept, frame-kept, frame-less, beyond-more}

@@ -1,7 +1,6 @@
 -- `holds::levels::start` meets its contract: a number below 65,536 that is made at least 1. Assumes nothing.
 use Prim.Native.Nat.{_≤_, _<_, _-_}
 use native.Mathlib.Omega.{arith}
-use Rattle.holds.proofs.levels.row_most.Reads as row-most-reads
 use Rattle.holds.proofs.levels.start.Statement.{statement}
 use Rattle.holds.proofs.levels.start.Tie as tie
 

@@ -2,9 +2,6 @@
 use Prim.Native.Nat.{_-_}
 use native.Mathlib.Omega.{arith}
 use Rattle.holds.proofs.HearLaws.{Hearing, hear-start, hear-step, hear-end, heard-byte}
-use Rattle.arrays.proofs.lists.put_byte.Reads as put-byte-reads
-use Rattle.holds.proofs.settings.heard_of.Reads as heard-of-reads
-use Rattle.holds.proofs.settings.lasting_of.Reads as lasting-of-reads
 use Rattle.holds.proofs.settings.hear.Statement.{statement}
 use Rattle.holds.proofs.settings.hear.Tie as tie
 

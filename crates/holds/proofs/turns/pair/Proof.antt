@@ -2,7 +2,6 @@
 use native.Mathlib.Omega.{arith}
 use mathlib.Core.Path.{refl, _∙_}
 use Rattle.holds.proofs.TurnLaws.{Seeking, seek-match, seek-matched, level-two, seek-lower}
-use Rattle.pairs.proofs.all.match_all.Reads as match-all-reads
 use Rattle.holds.proofs.turns.pair.Statement.{statement}
 use Rattle.holds.proofs.turns.pair.Tie as tie
 

@@ -2,9 +2,6 @@
 use Prim.Native.Nat.{_-_}
 use native.Mathlib.Omega.{arith}
 use Rattle.holds.proofs.TakeLaws.{Taking, take-start, take-in, take-square, take-enough, take-square-2, take-skip, take-part, take-end}
-use Rattle.arrays.proofs.lists.put_byte.Reads as put-byte-reads
-use Rattle.arrays.proofs.lists.put_set.Reads as put-set-reads
-use Rattle.arrays.proofs.lists.set_at.Reads as set-at-reads
 use Rattle.holds.proofs.turns.take.Statement.{statement}
 use Rattle.holds.proofs.turns.take.Tie as tie
 

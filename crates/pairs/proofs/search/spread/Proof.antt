@@ -3,7 +3,7 @@ use native.Mathlib.Omega.{arith}
 use mathlib.Core.Path.{_∙_}
 use borrow.Author.Needs.{needs}
 use Rattle.nodes.specs.Sets.{size}
-use Rattle.pairs.proofs.Scans.{Spreading, spread-start, spread-none, spread-within, spread-met, spread-step, spread-falls}
+use Rattle.pairs.proofs.Scans.{Spreading, spread-start, spread-open, spread-within, spread-met, spread-step, spread-falls}
 use Rattle.pairs.proofs.search.spread.Statement.{statement}
 use Rattle.pairs.proofs.search.spread.Tie as tie
 
@@ -23,7 +23,7 @@ same-length : tie.Need-same-length Inv-loop μ-loop
 same-length c = c .before .before .loop .inv .len
 
 returns : tie.Need-returns Inv-loop μ-loop
-returns c = spread-none (c .before .before .before .before .before .before .pre) (c .before .before .loop .inv) (c .before .first .ensures) (c .if1 .taken)
+returns c = spread-open (c .before .before .before .before .before .before .pre) (c .before .before .loop .inv) (c .before .first .ensures) (c .if1 .taken)
 
 put-byte-requires : tie.Need-put-byte-requires Inv-loop μ-loop
 put-byte-requires c κs = (omega (arith, c .before .before .before .loop .inv .len, c .before .before .before .before .before .before .before .pre .nexts), omega (arith, c .before .before .before .before .before .before .before .pre .nodes, c .before .before .before .before .before .before .before .pre .within))

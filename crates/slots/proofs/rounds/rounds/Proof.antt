@@ -1,5 +1,5 @@
 -- `slots::rounds::rounds` meets its contract: the loop keeps `Rounding`, and each turn writes a slot or more. Assumes nothing.
-use Prim.Native.Nat.{_+_, _-_}
+use Prim.Native.Nat.{_-_}
 use native.Mathlib.Omega.{arith}
 use mathlib.Core.Path.{refl, _∙_}
 use Rattle.slots.proofs.RoundLaws.{Rounding, round-turn, round-frame, round-placed, round-changed, round-beyond, round-few, round-end}
