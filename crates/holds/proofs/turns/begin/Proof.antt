@@ -1,38 +1,37 @@
 -- `holds::turns::begin` meets its contract: nobody is paired, so all nodes are free. Assumes nothing.
 use native.Mathlib.Omega.{arith}
 use mathlib.Core.Path.{refl}
-use borrow.Author.Needs.{needs}
 use Rattle.holds.proofs.TurnLaws.{none-paired}
 use Rattle.pairs.proofs.Matches.{all-free}
 use Rattle.holds.proofs.turns.begin.Statement.{statement}
 use Rattle.holds.proofs.turns.begin.Tie as tie
 
 fill-requires : tie.Need-fill-requires
-fill-requires c κs = search needs
+fill-requires c κs = (c .before .before .before .before .before .pre .1 .sources, omega (arith, c .before .before .before .before .before .pre .1 .nodes))
 
 fill-requires-2 : tie.Need-fill-requires-2
-fill-requires-2 c κs = search needs
+fill-requires-2 c κs = (c .before .before .before .before .before .before .before .before .before .pre .1 .destinations, omega (arith, c .before .before .before .before .before .before .before .before .before .pre .1 .nodes))
 
 start-requires : tie.Need-start-requires
-start-requires c κs = search needs
+start-requires c κs = c .before .before .before .before .before .before .before .before .before .before .before .before .pre .0
 
 allow-requires : tie.Need-allow-requires
-allow-requires c κs = search needs
+allow-requires c κs = (c .before .before .before .before .before .before .before .before .before .before .before .before .before .before .pre .0, c .before .before .before .before .before .before .before .before .before .before .before .before .before .before .pre .1 .mays)
 
 all-requires : tie.Need-all-requires
-all-requires c κs = search needs
+all-requires c κs = tt
 
 all-requires-2 : tie.Need-all-requires-2
-all-requires-2 c κs = search needs
+all-requires-2 c κs = tt
 
 same-length : tie.Need-same-length
-same-length c = search needs
+same-length c = c .before .before .before .before .allow .kept .1 .1 .1 .0
 
 same-length-2 : tie.Need-same-length-2
-same-length-2 c = search needs
+same-length-2 c = c .before .before .before .before .before .before .before .before .before .before .before .before .before .fill .kept .0
 
 same-length-3 : tie.Need-same-length-3
-same-length-3 c = search needs
+same-length-3 c = c .before .before .before .before .before .before .before .before .before .fill2 .kept .0
 
 returns : tie.Need-returns
 returns c = record { standing = record { table-room = c .before .before .before .before .before .before .before .before .before .before .before .before .before .before .before .before .before .before .before .pre .0; rooms = record { nodes = c .before .before .before .before .before .before .before .before .before .before .before .before .before .before .before .before .before .before .before .pre .1 .nodes; mays = omega (arith, c .before .before .before .before .before .before .before .before .before .before .before .before .before .before .before .before .before .before .before .pre .1 .mays, c .before .before .before .before .allow .kept .1 .1 .1 .0); sources = omega (arith, c .before .before .before .before .before .before .before .before .before .before .before .before .before .before .before .before .before .before .before .pre .1 .sources, c .before .before .before .before .before .before .before .before .before .before .before .before .before .fill .kept .0); destinations = omega (arith, c .before .before .before .before .before .before .before .before .before .before .before .before .before .before .before .before .before .before .before .pre .1 .destinations, c .before .before .before .before .before .before .before .before .before .fill2 .kept .0) }; right = c .before .before .before .before .allow .ensures; paired = none-paired _ (c .before .before .before .before .before .before .before .before .before .before .before .before .before .fill .ensures) (c .before .before .before .before .before .before .before .before .before .fill2 .ensures); lone = record { no-destination = all-free (c .before .before .before .before .before .before .before .before .before .before .before .before .before .before .before .before .before .before .before .pre .1 .nodes) (c .before .before .before .before .before .before .before .before .before .fill2 .ensures) (c .before .all .ensures); no-source = all-free (c .before .before .before .before .before .before .before .before .before .before .before .before .before .before .before .before .before .before .before .pre .1 .nodes) (c .before .before .before .before .before .before .before .before .before .before .before .before .before .fill .ensures) (c .all2 .ensures) }; some = c .before .before .before .before .before .before .start .ensures .0; most = c .before .before .before .before .before .before .start .ensures .1 }; none = refl }
