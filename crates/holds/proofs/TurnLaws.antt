@@ -10,16 +10,19 @@ use Rattle.sums.specs.Sums.{hit}
 use Rattle.sums.specs.Tables.{cell}
 use Rattle.sums.proofs.Sums.{sum-two, hit-same, hit-other}
 use Rattle.sums.proofs.Cases.{by-eq, by-lt}
+use Rattle.star.specs.Tables.{Square}
 use Rattle.star.proofs.LineLaws.{row-sum, column-sum}
+use Rattle.nodes.specs.Sets.{All}
 use Rattle.arrays.specs.Arrays.{Filled}
 use Rattle.cells.specs.Cells.{paddedIn, keptIn}
 use Rattle.pairs.specs.declared.free.Free.{Free}
-use Rattle.pairs.specs.Pairs.{allowed, taken, Paired, CanMatch, Matched, Stuck}
+use Rattle.pairs.specs.Pairs.{allowed, taken, Paired, Rooms, CanMatch, Matched, Stuck}
 use Rattle.pairs.proofs.Counts.{never-stuck, taken-all}
+use Rattle.pairs.proofs.Matches.{all-free}
 use Rattle.holds.specs.declared.turns.Turn.{Turn}
 use Rattle.holds.specs.Levels.{Level}
 use Rattle.holds.specs.Holds.{CanHear, Hears, Takes, Next}
-use Rattle.holds.specs.Turns.{Standing, Even, CanPair, Ready, CanTake, Parted, CanTurn, Turned}
+use Rattle.holds.specs.Turns.{Standing, Even, Begun, CanPair, Ready, CanTake, Parted, CanTurn, Turned}
 use Rattle.holds.proofs.HearLaws.{lasting-idle, lasting-due, heard-idle, heard-due}
 use Rattle.holds.proofs.TakeLaws.{line-less}
 
@@ -35,13 +38,36 @@ lower-paired {source = source} a b le p = record {
   allows = λ j hj lt. b .all j hj .in' (getD source j 0) lt (omega (arith, a .all j hj .out (getD source j 0) lt (p .allows j hj lt)));
 }
 
-pub none-paired : {n : ℕ} {source destination : List ℕ} (may : List ℕ) → Filled n source n → Filled n destination n → Paired n may source destination
+none-paired : {n : ℕ} {source destination : List ℕ} (may : List ℕ) → Filled n source n → Filled n destination n → Paired n may source destination
 none-paired may s d = record {
   source-most = λ j hj. omega (arith, s .all j hj);
   destination-most = λ i hi. omega (arith, d .all i hi);
   back = λ j hj lt. absurd (omega (arith, s .all j hj));
   forth = λ i hi lt. absurd (omega (arith, d .all i hi));
   allows = λ j hj lt. absurd (omega (arith, s .all j hj));
+}
+
+-- ---- before the first turn
+pub begin-law : {n : ℕ} {table may may' source source' destination destination' : List ℕ} {level s d : ℕ} → Square n table → Rooms n may source destination
+    → length may' ≡ length may → length source' ≡ length source → length destination' ≡ length destination
+    → Level n (paddedIn table) may' level → 1 ≤ level → level < 65536 → Filled n source' n → Filled n destination' n → All s → All d
+    → Begun n table may' source' destination' (record { slots = 0; level = level; held = 0; free = record { sources = s; destinations = d } })
+begin-law {may' = may'} square rooms em es ed right some most no-source no-destination all-sources all-destinations = record {
+  standing = record {
+    table-room = square;
+    rooms = record {
+      nodes = rooms .nodes;
+      mays = omega (arith, rooms .mays);
+      sources = omega (arith, rooms .sources);
+      destinations = omega (arith, rooms .destinations);
+    };
+    right = right;
+    paired = none-paired may' no-source no-destination;
+    lone = record { no-destination = all-free (rooms .nodes) no-destination all-sources; no-source = all-free (rooms .nodes) no-source all-destinations };
+    some = some;
+    most = most;
+  };
+  none = refl;
 }
 
 -- ---- all are paired, where need be at a lower level

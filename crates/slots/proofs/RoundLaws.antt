@@ -20,7 +20,7 @@ use Rattle.cells.proofs.CellLaws.{nothing-left}
 use Rattle.changes.proofs.ChangeLaws.{changes-most}
 use Rattle.idle.specs.Idle.{Small, Padded}
 use Rattle.holds.specs.declared.turns.Turn.{Turn}
-use Rattle.holds.specs.Turns.{Standing, CanTurn, Turned}
+use Rattle.holds.specs.Turns.{Standing, Begun, CanTurn, Turned}
 use Rattle.slots.specs.Writing.{Extended}
 use Rattle.slots.specs.Rounds.{Placed, CanSettle, Rounded}
 use Rattle.slots.specs.Places.{CanPlace, Rested, Places}
@@ -42,6 +42,24 @@ pub record Rounding (n r : ℕ) (table0 may0 source0 destination0 bytes0 schedul
   pub few : turn .held + r ≤ 1024 + t
   pub beyond : drop (r * n) schedule ≡ drop (r * n) schedule0
 
+pub round-start : {n r : ℕ} {table may source destination bytes schedule : List ℕ} {turn : Turn} → CanSettle n r table schedule → Begun n table may source destination turn
+    → Rounding n r table may source destination bytes schedule table may source destination bytes schedule turn 0 0
+round-start {n} {schedule = schedule} c b = record {
+  table-len = refl;
+  may-len = refl;
+  source-len = refl;
+  destination-len = refl;
+  bytes-len = refl;
+  schedule-len = refl;
+  placed = c .placed;
+  kept = refl;
+  changed = omega (arith, changes-most n 0 schedule);
+  standing = b .standing;
+  within = omega arith;
+  few = omega (arith, b .none, c .frame .slots);
+  beyond = refl;
+}
+
 module _ {n r : ℕ} {table0 may0 source0 destination0 bytes0 schedule0 table may source destination bytes schedule : List ℕ} {turn : Turn} {changes t : ℕ}
     (c : CanSettle n r table0 schedule0)
     (g : Rounding n r table0 may0 source0 destination0 bytes0 schedule0 table may source destination bytes schedule turn changes t) where
@@ -58,15 +76,25 @@ module _ {n r : ℕ} {table0 may0 source0 destination0 bytes0 schedule0 table ma
 
   -- ---- the setting is written
   module _ {table' may' source' destination' bytes' schedule' : List ℕ} {turn' : Turn} {more : ℕ} (d : Turned n table table' may' source' destination' bytes' (r - t) turn')
-      (x : Extended n schedule schedule' bytes' t (t + turn' .slots) more) where
-    pub round-placed : Placed n r (t + turn' .slots) table' schedule'
-    round-placed = placed-more (d .next) (x .wrote) (g .placed)
-
-    pub round-changed : changes + more ≡ reconfigurations n (t + turn' .slots) schedule'
-    round-changed = omega (arith, g .changed, x .changes)
-
-    pub round-beyond : t < r → drop (r * n) schedule' ≡ drop (r * n) schedule0
-    round-beyond lt = beyond-more n (t + turn' .slots) r schedule' schedule (omega (arith, d .next .within)) (x .wrote .beyond) ∙ g .beyond
+      (x : Extended n schedule schedule' bytes' t (t + turn' .slots) more) (lt : t < r) where
+    pub round-more : length table' ≡ length table → length may' ≡ length may → length source' ≡ length source → length destination' ≡ length destination → length bytes' ≡ length bytes
+        → length schedule' ≡ length schedule
+        → Rounding n r table0 may0 source0 destination0 bytes0 schedule0 table' may' source' destination' bytes' schedule' turn' (changes + more) (t + turn' .slots)
+    round-more et em es ed eb ec = record {
+      table-len = et ∙ g .table-len;
+      may-len = em ∙ g .may-len;
+      source-len = es ∙ g .source-len;
+      destination-len = ed ∙ g .destination-len;
+      bytes-len = eb ∙ g .bytes-len;
+      schedule-len = ec ∙ g .schedule-len;
+      placed = placed-more (d .next) (x .wrote) (g .placed);
+      kept = d .next .kept ∙ g .kept;
+      changed = omega (arith, g .changed, x .changes);
+      standing = d .standing;
+      within = omega (arith, d .next .within);
+      few = omega (arith, d .few, g .few);
+      beyond = beyond-more n (t + turn' .slots) r schedule' schedule (omega (arith, d .next .within)) (x .wrote .beyond) ∙ g .beyond;
+    }
 
   pub round-few : changes ≤ t
   round-few = omega (arith, g .changed, changes-most n t schedule)

@@ -1,8 +1,6 @@
 -- `holds::turns::begin` meets its contract: nobody is paired, so all nodes are free. Assumes nothing.
 use native.Mathlib.Omega.{arith}
-use mathlib.Core.Path.{refl}
-use Rattle.holds.proofs.TurnLaws.{none-paired}
-use Rattle.pairs.proofs.Matches.{all-free}
+use Rattle.holds.proofs.TurnLaws.{begin-law}
 use Rattle.holds.proofs.turns.begin.Statement.{statement}
 use Rattle.holds.proofs.turns.begin.Tie as tie
 
@@ -34,7 +32,7 @@ same-length-3 : tie.Need-same-length-3
 same-length-3 c = c .before .before .before .before .before .before .before .before .before .fill2 .kept .0
 
 returns : tie.Need-returns
-returns c = record { standing = record { table-room = c .before .before .before .before .before .before .before .before .before .before .before .before .before .before .before .before .before .before .before .pre .0; rooms = record { nodes = c .before .before .before .before .before .before .before .before .before .before .before .before .before .before .before .before .before .before .before .pre .1 .nodes; mays = omega (arith, c .before .before .before .before .before .before .before .before .before .before .before .before .before .before .before .before .before .before .before .pre .1 .mays, c .before .before .before .before .allow .kept .1 .1 .1 .0); sources = omega (arith, c .before .before .before .before .before .before .before .before .before .before .before .before .before .before .before .before .before .before .before .pre .1 .sources, c .before .before .before .before .before .before .before .before .before .before .before .before .before .fill .kept .0); destinations = omega (arith, c .before .before .before .before .before .before .before .before .before .before .before .before .before .before .before .before .before .before .before .pre .1 .destinations, c .before .before .before .before .before .before .before .before .before .fill2 .kept .0) }; right = c .before .before .before .before .allow .ensures; paired = none-paired _ (c .before .before .before .before .before .before .before .before .before .before .before .before .before .fill .ensures) (c .before .before .before .before .before .before .before .before .before .fill2 .ensures); lone = record { no-destination = all-free (c .before .before .before .before .before .before .before .before .before .before .before .before .before .before .before .before .before .before .before .pre .1 .nodes) (c .before .before .before .before .before .before .before .before .before .fill2 .ensures) (c .before .all .ensures); no-source = all-free (c .before .before .before .before .before .before .before .before .before .before .before .before .before .before .before .before .before .before .before .pre .1 .nodes) (c .before .before .before .before .before .before .before .before .before .before .before .before .before .fill .ensures) (c .all2 .ensures) }; some = c .before .before .before .before .before .before .start .ensures .0; most = c .before .before .before .before .before .before .start .ensures .1 }; none = refl }
+returns c = begin-law (c .before .before .before .before .before .before .before .before .before .before .before .before .before .before .before .before .before .before .before .pre .0) (c .before .before .before .before .before .before .before .before .before .before .before .before .before .before .before .before .before .before .before .pre .1) (c .before .before .before .before .allow .kept .1 .1 .1 .0) (c .before .before .before .before .before .before .before .before .before .before .before .before .before .fill .kept .0) (c .before .before .before .before .before .before .before .before .before .fill2 .kept .0) (c .before .before .before .before .allow .ensures) (c .before .before .before .before .before .before .start .ensures .0) (c .before .before .before .before .before .before .start .ensures .1) (c .before .before .before .before .before .before .before .before .before .before .before .before .before .fill .ensures) (c .before .before .before .before .before .before .before .before .before .fill2 .ensures) (c .before .all .ensures) (c .all2 .ensures)
 
 pub begin-spec : {M : Type 1} → statement M
 begin-spec =

@@ -1,9 +1,8 @@
 -- `slots::rounds::rounds` meets its contract: the loop keeps `Rounding`, and each turn writes a slot or more. Assumes nothing.
 use Prim.Native.Nat.{_-_}
 use native.Mathlib.Omega.{arith}
-use mathlib.Core.Path.{refl, _∙_}
-use Rattle.slots.proofs.RoundLaws.{Rounding, round-turn, round-frame, round-placed, round-changed, round-beyond, round-few, round-end}
-use Rattle.changes.proofs.ChangeLaws.{changes-most}
+use mathlib.Core.Path.{_∙_}
+use Rattle.slots.proofs.RoundLaws.{Rounding, round-start, round-turn, round-frame, round-more, round-few, round-end}
 use Rattle.slots.proofs.rounds.rounds.Statement.{statement}
 use Rattle.slots.proofs.rounds.rounds.Tie as tie
 
@@ -17,7 +16,7 @@ begin-requires : tie.Need-begin-requires Inv-loop μ-loop
 begin-requires c κs = (c .before .before .before .before .before .before .before .before .before .before .pre .settle .table-room, c .before .before .before .before .before .before .before .before .before .before .pre .rooms)
 
 loop-holds : tie.Need-loop-holds Inv-loop μ-loop
-loop-holds c = record { table-len = refl; may-len = refl; source-len = refl; destination-len = refl; bytes-len = refl; schedule-len = refl; placed = c .before .before .before .before .before .before .before .before .before .before .before .before .before .before .before .before .before .pre .settle .placed; kept = refl; changed = omega (arith, changes-most (c .before .before .before .before .before .before .before .before .before .before .before .before .before .before .before .before .before .args .n) 0 (c .before .before .before .before .before .before .before .before .before .before .before .before .before .before .before .before .before .args .schedule .now)); standing = c .before .before .before .before .before .before .begin .ensures .standing; within = omega arith; few = omega (arith, c .before .before .before .before .before .before .begin .ensures .none, c .before .before .before .before .before .before .before .before .before .before .before .before .before .before .before .before .before .pre .settle .frame .slots); beyond = refl }
+loop-holds c = round-start (c .before .before .before .before .before .before .before .before .before .before .before .before .before .before .before .before .before .pre .settle) (c .before .before .before .before .before .before .begin .ensures)
 
 sub-left : tie.Need-sub-left Inv-loop μ-loop
 sub-left c = omega arith
@@ -44,7 +43,7 @@ loop-less : tie.Need-loop-less Inv-loop μ-loop
 loop-less c = omega (arith, c .before .before .before .before .before .before .before .before .before .before .before .before .before .before .before .before .next .ensures .next .some)
 
 loop-again : tie.Need-loop-again Inv-loop μ-loop
-loop-again c = record { table-len = c .before .before .before .before .before .before .before .before .before .before .before .before .before .before .before .before .next .kept .1 .0 ∙ c .before .before .before .before .before .before .before .before .before .before .before .before .before .before .before .before .before .before .before .before .before .before .before .loop .inv .table-len; may-len = c .before .before .before .before .before .before .before .before .before .before .before .before .before .before .before .before .next .kept .1 .1 .0 ∙ c .before .before .before .before .before .before .before .before .before .before .before .before .before .before .before .before .before .before .before .before .before .before .before .loop .inv .may-len; source-len = c .before .before .before .before .before .before .before .before .before .before .before .before .before .before .before .before .next .kept .1 .1 .1 .0 ∙ c .before .before .before .before .before .before .before .before .before .before .before .before .before .before .before .before .before .before .before .before .before .before .before .loop .inv .source-len; destination-len = c .before .before .before .before .before .before .before .before .before .before .before .before .before .before .before .before .next .kept .1 .1 .1 .1 .0 ∙ c .before .before .before .before .before .before .before .before .before .before .before .before .before .before .before .before .before .before .before .before .before .before .before .loop .inv .destination-len; bytes-len = c .before .before .before .before .before .before .before .before .before .before .before .before .before .before .before .before .next .kept .1 .1 .1 .1 .1 .0 ∙ c .before .before .before .before .before .before .before .before .before .before .before .before .before .before .before .before .before .before .before .before .before .before .before .loop .inv .bytes-len; schedule-len = c .before .before .extend .kept .1 .0 ∙ c .before .before .before .before .before .before .before .before .before .before .before .before .before .before .before .before .before .before .before .before .before .before .before .loop .inv .schedule-len; placed = round-placed (c .before .before .before .before .before .before .before .before .before .before .before .before .before .before .before .before .before .before .before .before .before .before .before .before .before .before .before .before .before .before .before .before .before .before .before .before .before .before .before .before .before .pre .settle) (c .before .before .before .before .before .before .before .before .before .before .before .before .before .before .before .before .before .before .before .before .before .before .before .loop .inv) (c .before .before .before .before .before .before .before .before .before .before .before .before .before .before .before .before .next .ensures) (c .before .before .extend .ensures); kept = c .before .before .before .before .before .before .before .before .before .before .before .before .before .before .before .before .next .ensures .next .kept ∙ c .before .before .before .before .before .before .before .before .before .before .before .before .before .before .before .before .before .before .before .before .before .before .before .loop .inv .kept; changed = round-changed (c .before .before .before .before .before .before .before .before .before .before .before .before .before .before .before .before .before .before .before .before .before .before .before .before .before .before .before .before .before .before .before .before .before .before .before .before .before .before .before .before .before .pre .settle) (c .before .before .before .before .before .before .before .before .before .before .before .before .before .before .before .before .before .before .before .before .before .before .before .loop .inv) (c .before .before .before .before .before .before .before .before .before .before .before .before .before .before .before .before .next .ensures) (c .before .before .extend .ensures); standing = c .before .before .before .before .before .before .before .before .before .before .before .before .before .before .before .before .next .ensures .standing; within = omega (arith, c .before .before .before .before .before .before .before .before .before .before .before .before .before .before .before .before .next .ensures .next .within); few = omega (arith, c .before .before .before .before .before .before .before .before .before .before .before .before .before .before .before .before .next .ensures .few); beyond = round-beyond (c .before .before .before .before .before .before .before .before .before .before .before .before .before .before .before .before .before .before .before .before .before .before .before .before .before .before .before .before .before .before .before .before .before .before .before .before .before .before .before .before .before .pre .settle) (c .before .before .before .before .before .before .before .before .before .before .before .before .before .before .before .before .before .before .before .before .before .before .before .loop .inv) (c .before .before .before .before .before .before .before .before .before .before .before .before .before .before .before .before .next .ensures) (c .before .before .extend .ensures) (c .before .before .before .before .before .before .before .before .before .before .before .before .before .before .before .before .before .before .before .before .before .before .loop-test .taken) }
+loop-again c = round-more (c .before .before .before .before .before .before .before .before .before .before .before .before .before .before .before .before .before .before .before .before .before .before .before .before .before .before .before .before .before .before .before .before .before .before .before .before .before .before .before .before .before .pre .settle) (c .before .before .before .before .before .before .before .before .before .before .before .before .before .before .before .before .before .before .before .before .before .before .before .loop .inv) (c .before .before .before .before .before .before .before .before .before .before .before .before .before .before .before .before .next .ensures) (c .before .before .extend .ensures) (c .before .before .before .before .before .before .before .before .before .before .before .before .before .before .before .before .before .before .before .before .before .before .loop-test .taken) (c .before .before .before .before .before .before .before .before .before .before .before .before .before .before .before .before .next .kept .1 .0) (c .before .before .before .before .before .before .before .before .before .before .before .before .before .before .before .before .next .kept .1 .1 .0) (c .before .before .before .before .before .before .before .before .before .before .before .before .before .before .before .before .next .kept .1 .1 .1 .0) (c .before .before .before .before .before .before .before .before .before .before .before .before .before .before .before .before .next .kept .1 .1 .1 .1 .0) (c .before .before .before .before .before .before .before .before .before .before .before .before .before .before .before .before .next .kept .1 .1 .1 .1 .1 .0) (c .before .before .extend .kept .1 .0)
 
 same-length : tie.Need-same-length Inv-loop μ-loop
 same-length c = c .before .loop .inv .table-len
