@@ -1,15 +1,46 @@
 // The largest matrix below bounds whose line sums stay below limits, with the marks that prove it.
-mod draw;
-mod fill;
+mod grow;
 
-use crate::draw::grow;
-use crate::fill::fill;
+use crate::grow::grow;
+use growth::fill::fill;
+use growth::sides::roomy;
+use layers::mark;
 use star::tables::clear;
 use star::tables::copy;
 ghost use Prim.Native.Nat.{_*_, _≤_};
 ghost use lib.ListN.{length};
 ghost use Rattle.flow.specs.Flows.{Feasible, Closed};
 ghost use Rattle.flow.specs.Certified.{Bounded, Certified};
+ghost use Rattle.flow.specs.Grows.{Empty, Full};
+
+// From a matrix of zeros, with lists for the sets: at first every row can give where its bound is at least 1, and no column takes.
+fn largest_from(n: usize, bound: &[u32], a: &mut [u32], room: &mut [u32], marks: &mut [u8])
+    requires { ⌜ Empty n (now bound) (now a) (now room) (now marks) ⌝ }
+    ensures { λ _. ⌜ Full n (now (bound .entry)) (now (a .entry)) (now (room .entry)) (now (a .exit)) (now (room .exit)) (now (marks .exit)) ⌝ }
+{
+    let mut offers = [0u64; 64];
+    let mut takers = [0u64; 64];
+    at_least::rows(n, bound, 1, &mut offers);
+    let rows = roomy(n, room, 0);
+    fill(n, bound, a, room, &mut offers, &mut takers, rows);
+    grow(n, bound, a, room, &mut offers, &mut takers, marks);
+}
+
+// The same. Where no row has room, or no column, there is nothing to do: no line is reached, or every line may be.
+fn largest_within(n: usize, bound: &[u32], a: &mut [u32], room: &mut [u32], marks: &mut [u8])
+    requires { ⌜ Empty n (now bound) (now a) (now room) (now marks) ⌝ }
+    ensures { λ _. ⌜ Full n (now (bound .entry)) (now (a .entry)) (now (room .entry)) (now (a .exit)) (now (room .exit)) (now (marks .exit)) ⌝ }
+{
+    if nodes::first(roomy(n, room, 0)) >= n {
+        mark(n, marks, nodes::all(), nodes::all());
+        return;
+    }
+    if nodes::first(roomy(n, room, n)) >= n {
+        mark(n, marks, nodes::none(), nodes::none());
+        return;
+    }
+    largest_from(n, bound, a, room, marks);
+}
 
 // What `largest` does, on a matrix and marks of just the cells needed, with a table for the rooms.
 fn largest_on(
@@ -26,8 +57,7 @@ fn largest_on(
 {
     clear(n, a);
     copy(limit, room, 2 * n);
-    fill(n, bound, a, room);
-    grow(n, bound, a, room, marks);
+    largest_within(n, bound, a, room, marks);
 }
 
 // Of all matrices that are at most `bound` at each cell and whose line sums are at most `limit`, one with the greatest total, in `a`; and marks

@@ -9,6 +9,7 @@ use lib.Arith.{digits-div, digits-mod}
 use lib.Bits.{bitAnd, bitOr, bitXor, differ, and-step, or-step, xor-step, shifted-half, shifted-even}
 use lib.Pow.{shl-exact, pow-pos}
 use lib.Count.{trailingZeros, under, trailing-le}
+use mir.Val.{boolByte}
 use Rattle.sums.proofs.Cases.{by-eq}
 use Rattle.nodes.specs.Sets.{member, With, WithWhere, Without, First, Joined}
 
@@ -105,6 +106,18 @@ with-where-added t w = record { added = λ e. w .here; left = λ e. absurd (fals
 
 pub with-where-left : {s i : ℕ} {test : Bool} → test ≡ false → WithWhere s i test s
 with-where-left t = record { added = λ e. absurd (false≢true (sym t ∙ e)); left = λ e. refl; other = λ j ne. refl }
+
+-- the or of a bit that is the test
+pub with-where-law : (s i : ℕ) (test : Bool) → i < 64 → WithWhere s i test (bitOr s ((boolByte test * 2 ^ i) % 2 ^ 64))
+with-where-law s i true h = with-where-added refl (with-law 64 s i h)
+with-where-law s i false h =
+    let none : (0 * 2 ^ i) % 2 ^ 64 ≡ 0 = omega arith in
+    let same : (j : ℕ) → member j (bitOr s ((0 * 2 ^ i) % 2 ^ 64)) ≡ member j s =
+    λ j.
+    let off : member j ((0 * 2 ^ i) % 2 ^ 64) ≡ 0 = ap (member j) none ∙ member-none j in
+    let q : member j (bitOr s ((0 * 2 ^ i) % 2 ^ 64)) + member j s * 0 ≡ member j s + 0 = rw off at (or-member j s ((0 * 2 ^ i) % 2 ^ 64)) in
+    omega arith in
+    record { added = λ e. absurd (false≢true e); left = λ e. same i; other = λ j ne. same j }
 
 pub minus-law : (s t j : ℕ) → member j (bitXor s (bitAnd s t)) + member j s * member j t ≡ member j s
 minus-law s t j =

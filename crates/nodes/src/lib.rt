@@ -1,7 +1,14 @@
 // A set of up to 64 nodes as one number: node i is in it where binary digit i is 1. The only bit arithmetic of the planner;
 // every contract speaks of members alone.
 ghost use Prim.Native.Nat.{_<_};
-ghost use Rattle.nodes.specs.Sets.{All, With, WithWhere, Without, Both, Minus, First, Joined};
+ghost use Rattle.nodes.specs.Sets.{None, All, With, WithWhere, Without, Both, Minus, First, Joined};
+
+// The set of no node.
+pub fn none() -> u64
+    ensures { λ r. ⌜ None r ⌝ }
+{
+    0
+}
 
 // The set of all 64 nodes.
 pub fn all() -> u64
@@ -16,6 +23,14 @@ pub fn with(s: u64, i: usize) -> u64
     ensures { λ r. ⌜ With s i r ⌝ }
 {
     s | (1 << i)
+}
+
+// The set with node i where the test holds, and else as it is. There is no branch in it, so it costs the same where tests are irregular.
+pub fn with_where(s: u64, i: usize, test: bool) -> u64
+    requires { ⌜ i < 64 ⌝ }
+    ensures { λ r. ⌜ WithWhere s i test r ⌝ }
+{
+    s | ((test as u64) << i)
 }
 
 // The half with node i where the test holds, and else as it is. A half is a set of up to 32 nodes, of which the machine takes four at a time; the

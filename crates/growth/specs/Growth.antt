@@ -1,0 +1,32 @@
+-- A matrix `a` that grows below its bound, and what each of its lines may still take. `room` holds the latter for each of the 2N lines.
+use Prim.Native.Nat.{ℕ, _+_, _*_, _≤_, _<_}
+use mathlib.Core.Path.{_≡_}
+use mathlib.Core.List.{List}
+use lib.ListN.{getD}
+use lib.Dec.{eqb}
+use Rattle.sums.specs.Sums.{sumTo, gate}
+use Rattle.sums.specs.Tables.{cell}
+use Rattle.star.specs.Tables.{Square}
+use Rattle.star.specs.Lines.{lineSum}
+
+-- a matrix below its bound
+pub record Below (n : ℕ) (bound a : List ℕ) : Type 0 where
+  pub bounds : Square n bound
+  pub cells : Square n a
+  pub below : (i j : ℕ) → i < n → j < n → cell n a i j ≤ cell n bound i j
+
+-- what a line has and may still take: its limit
+unfoldable pub span : (n : ℕ) (a room : List ℕ) (ℓ : ℕ) → ℕ
+span n a room ℓ = lineSum n a ℓ + getD room ℓ 0
+
+-- each line's sum and room together did not change
+pub record Kept (n : ℕ) (a room a' room' : List ℕ) : Type 0 where
+  pub spans : (ℓ : ℕ) → ℓ < 2 * n → span n a' room' ℓ ≡ span n a room ℓ
+
+-- what all rows may still take
+unfoldable pub rowRoom : (n : ℕ) (room : List ℕ) → ℕ
+rowRoom n room = sumTo n (λ i. getD room i 0)
+
+-- x on line t, and 0 on every other line
+unfoldable pub only : (ℓ t x : ℕ) → ℕ
+only ℓ t x = gate (eqb ℓ t) x

@@ -1,0 +1,94 @@
+// A first matrix: each column takes what the bounds and the room of its rows allow. Column j begins at row j, so that the columns do not all spend the
+// first rows' room.
+use crate::sides::more;
+use arrays::lists;
+use star::numbers::smaller;
+use star::tables::get;
+ghost use Prim.Native.Nat.{_*_, _<_, _≤_};
+ghost use lib.ListN.{length};
+ghost use Rattle.growth.specs.Sides.{Sides, Filled};
+
+// Row i gives column j what their bound and both rooms allow.
+fn fill_at(
+    n: usize,
+    bound: &[u32],
+    a: &mut [u32],
+    room: &mut [u32],
+    offers: &mut [u64],
+    takers: &mut [u64],
+    i: usize,
+    j: usize,
+)
+    requires { ⌜ Sides n (now bound) (now a) (now offers) (now takers) ⌝ }
+    requires { ⌜ (2 * n ≤ length (now room)) × (i < n) × (j < n) ⌝ }
+    ensures { λ _. ⌜ Filled n (now (bound .entry)) (now (a .entry)) (now (room .entry)) (now (a .exit)) (now (room .exit)) (now (offers .exit)) (now (takers .exit)) ⌝ }
+{
+    let spare = get(n, bound, i, j) - get(n, a, i, j);
+    let x = smaller(spare, smaller(room[i], room[n + j]));
+    if x == 0 {
+        return;
+    }
+    more(n, bound, a, offers, takers, i, j, x);
+    room[i] -= x;
+    room[n + j] -= x;
+}
+
+// Column j takes from some rows while it has room. Says which rows may still have room, of those that may have had.
+fn fill_some(
+    n: usize,
+    bound: &[u32],
+    a: &mut [u32],
+    room: &mut [u32],
+    offers: &mut [u64],
+    takers: &mut [u64],
+    j: usize,
+    some: u64,
+    roomy: u64,
+) -> u64
+    requires { ⌜ Sides n (now bound) (now a) (now offers) (now takers) ⌝ }
+    requires { ⌜ (2 * n ≤ length (now room)) × (j < n) ⌝ }
+    ensures { λ _. ⌜ Filled n (now (bound .entry)) (now (a .entry)) (now (room .entry)) (now (a .exit)) (now (room .exit)) (now (offers .exit)) (now (takers .exit)) ⌝ }
+{
+    let mut left = roomy;
+    let mut todo = some;
+    while room[n + j] > 0 {
+        let i = nodes::first(todo);
+        if i >= n {
+            return left;
+        }
+        todo = nodes::without(todo, i);
+        fill_at(n, bound, a, room, offers, takers, i, j);
+        if room[i] > 0 {
+            continue;
+        }
+        left = nodes::without(left, i);
+    }
+    left
+}
+
+// Every column takes, from the rows of `rows`.
+pub fn fill(
+    n: usize,
+    bound: &[u32],
+    a: &mut [u32],
+    room: &mut [u32],
+    offers: &mut [u64],
+    takers: &mut [u64],
+    rows: u64,
+)
+    requires { ⌜ Sides n (now bound) (now a) (now offers) (now takers) ⌝ }
+    requires { ⌜ 2 * n ≤ length (now room) ⌝ }
+    ensures { λ _. ⌜ Filled n (now (bound .entry)) (now (a .entry)) (now (room .entry)) (now (a .exit)) (now (room .exit)) (now (offers .exit)) (now (takers .exit)) ⌝ }
+{
+    let mut left = rows;
+    let mut late = nodes::all();
+    let mut j = 0;
+    while j < n {
+        let here = nodes::both(nodes::both(lists::set_at(offers, j), left), late);
+        left = fill_some(n, bound, a, room, offers, takers, j, here, left);
+        let rest = nodes::minus(nodes::both(lists::set_at(offers, j), left), late);
+        left = fill_some(n, bound, a, room, offers, takers, j, rest, left);
+        late = nodes::without(late, j);
+        j += 1;
+    }
+}

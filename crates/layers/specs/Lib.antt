@@ -1,0 +1,2 @@
+-- Layers, and the search for a goal.
+pub mod Layers

@@ -1,3 +1,0 @@
--- The laws of what can move where lines cross, and of levels.
-pub mod Seats
-pub mod Growing

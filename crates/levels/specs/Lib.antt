@@ -1,3 +1,0 @@
--- Levels of lines, and what a search for them promises.
-pub mod Levels
-pub mod Searches

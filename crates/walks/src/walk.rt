@@ -1,0 +1,91 @@
+// Walk after walk through the same layers.
+use crate::climb::climb;
+use crate::send::bottleneck;
+use crate::send::send;
+use arrays::lists;
+ghost use Prim.Native.Nat.{_<_};
+ghost use lib.ListN.{length};
+ghost use Rattle.walks.specs.Walks.{LeftIfNone, CanSpend, Spent, CanWalk, Walked, CanDrain, Drained};
+
+// Node i leaves set k where nothing is left.
+fn leave_if_none(list: &mut [u64], k: usize, i: usize, left: u32)
+    requires { ⌜ (k < length (now list)) × (i < 64) ⌝ }
+    ensures { λ _. ⌜ LeftIfNone (now (list .entry)) (now (list .exit)) k i left ⌝ }
+{
+    if left > 0 {
+        return;
+    }
+    lists::put_set(list, k, nodes::without(lists::set_at(list, k), i));
+}
+
+// Row i of the first layer and column j of the last have x less room. What has none left leaves its layer.
+fn spend(
+    n: usize,
+    room: &mut [u32],
+    rows: &mut [u64],
+    columns: &mut [u64],
+    i: usize,
+    j: usize,
+    last: usize,
+    x: u32,
+)
+    requires { ⌜ CanSpend n (now room) (now rows) (now columns) i j last x ⌝ }
+    ensures { λ _. ⌜ Spent n (now (room .entry)) (now (rows .entry)) (now (columns .entry)) (now (room .exit)) (now (rows .exit)) (now (columns .exit)) i j last x ⌝ }
+{
+    room[i] -= x;
+    room[n + j] -= x;
+    leave_if_none(rows, 0, i, room[i]);
+    leave_if_none(columns, last, j, room[n + j]);
+}
+
+// Sends what can go to column e along one way; where there is none, e leaves its layer.
+fn walk(
+    n: usize,
+    bound: &[u32],
+    a: &mut [u32],
+    room: &mut [u32],
+    offers: &mut [u64],
+    takers: &mut [u64],
+    rows: &mut [u64],
+    columns: &mut [u64],
+    at: &mut [u8],
+    to: &mut [u8],
+    e: usize,
+    last: usize,
+)
+    requires { ⌜ CanWalk n (now bound) (now a) (now room) (now offers) (now takers) (now rows) (now columns) (now at) (now to) e last ⌝ }
+    ensures { λ _. ⌜ Walked n (now (bound .entry)) (now (a .entry)) (now (room .entry)) (now (offers .entry)) (now (takers .entry)) (now (rows .entry)) (now (columns .entry)) (now (a .exit)) (now (room .exit)) (now (offers .exit)) (now (takers .exit)) (now (rows .exit)) (now (columns .exit)) last ⌝ }
+{
+    if !climb(n, offers, takers, rows, columns, at, to, e, last) {
+        return;
+    }
+    let x = bottleneck(n, bound, a, room, at, to, e, last);
+    send(n, bound, a, offers, takers, at, to, e, last, x);
+    spend(n, room, rows, columns, lists::byte(at, 0), e, last, x);
+}
+
+// Walks until the last layer has no column left.
+pub fn drain(
+    n: usize,
+    bound: &[u32],
+    a: &mut [u32],
+    room: &mut [u32],
+    offers: &mut [u64],
+    takers: &mut [u64],
+    rows: &mut [u64],
+    columns: &mut [u64],
+    at: &mut [u8],
+    to: &mut [u8],
+    last: usize,
+)
+    requires { ⌜ CanDrain n (now bound) (now a) (now room) (now offers) (now takers) (now rows) (now columns) (now at) (now to) last ⌝ }
+    ensures { λ _. ⌜ Drained n (now (bound .entry)) (now (a .entry)) (now (room .entry)) (now (a .exit)) (now (room .exit)) (now (offers .exit)) (now (takers .exit)) ⌝ }
+{
+    loop {
+        let e = nodes::first(lists::set_at(columns, last));
+        if e >= n {
+            return;
+        }
+        walk(n, bound, a, room, offers, takers, rows, columns, at, to, e, last);
+    }
+}
