@@ -1,5 +1,5 @@
 -- The laws of turns: levels, what is heard, what is taken, and what a turn leaves to the next.
-pub mod HalfLaws
+pub mod LevelLaws
 pub mod HearLaws
 pub mod TakeLaws
 pub mod TurnLaws

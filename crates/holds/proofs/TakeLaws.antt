@@ -16,11 +16,11 @@ use Rattle.star.specs.Lines.{lineSum}
 use Rattle.star.proofs.LineLaws.{row-sum, column-sum}
 use Rattle.nodes.specs.Sets.{member, With, Without}
 use Rattle.arrays.proofs.Stores.{square-kept}
+use Rattle.at_least.specs.AtLeast.{AtLeastIn, AtLeast}
 use Rattle.cells.specs.Cells.{paddedIn, keptIn, Took}
 use Rattle.cells.proofs.CellLaws.{padded-length}
 use Rattle.pairs.specs.declared.free.Free.{Free}
 use Rattle.pairs.specs.Pairs.{allowed, taken, Paired, Unpaired, FreeNodes}
-use Rattle.holds.specs.Levels.{HeardAt, Level}
 use Rattle.holds.specs.Holds.{Taken}
 use Rattle.holds.specs.Turns.{CanTake, Parted}
 
@@ -76,7 +76,7 @@ module _ {n : ℕ} {y z : List ℕ} {i j h : ℕ} (square : Square n y) (hi : i 
       (λ ne. omega (arith, took-row a u hu ne))
 
   -- the sets stay right where the pair still has the level ..
-  level-kept : {may : List ℕ} {level : ℕ} → Level n (paddedIn y) may level → level ≤ cell n (paddedIn z) i j → Level n (paddedIn z) may level
+  level-kept : {may : List ℕ} {level : ℕ} → AtLeast n (paddedIn y) level may → level ≤ cell n (paddedIn z) i j → AtLeast n (paddedIn z) level may
   level-kept m st = record {
     all = λ u hu. record {
       in' = λ a ha le. m .all u hu .in' a ha (omega (arith, took-most a u hu));
@@ -87,10 +87,10 @@ module _ {n : ℕ} {y z : List ℕ} {i j h : ℕ} (square : Square n y) (hi : i 
   }
 
   -- .. and where it has not, and its source leaves the set
-  level-without : {may : List ℕ} {level s : ℕ} → j < length may → Level n (paddedIn y) may level → cell n (paddedIn z) i j < level → Without (getD may j 0) i s
-      → Level n (paddedIn z) (set may j s) level
+  level-without : {may : List ℕ} {level s : ℕ} → j < length may → AtLeast n (paddedIn y) level may → cell n (paddedIn z) i j < level → Without (getD may j 0) i s
+      → AtLeast n (paddedIn z) level (set may j s)
   level-without {may} {level} {s} fits m weak w =
-      let here : HeardAt n (paddedIn z) level j s = record {
+      let here : AtLeastIn n (paddedIn z) level j s = record {
         in' = λ a ha le. by-eq a i
             (λ q. absurd (omega (arith, ap (λ (x : ℕ). cell n (paddedIn z) x j) q)))
             (λ ne. w .other a ne ∙ m .all j hj .in' a ha (omega (arith, took-row a j hj ne)));
@@ -174,7 +174,7 @@ pub record Taking (n : ℕ) (table0 may0 source0 destination0 table may source d
   pub rest : (i u : ℕ) → i < n → u < n → j ≤ u → cell n (paddedIn table) i u ≡ cell n (paddedIn table0) i u
   pub ahead : (u : ℕ) → j ≤ u → getD source u 0 ≡ getD source0 u 0
   pub kept : keptIn table ≡ keptIn table0
-  pub right : Level n (paddedIn table) may level
+  pub right : AtLeast n (paddedIn table) level may
   pub paired : Paired n may source destination
   pub lone : FreeNodes n source destination sources destinations
 

@@ -14,20 +14,20 @@ use Rattle.star.specs.Tables.{Square}
 use Rattle.star.proofs.LineLaws.{row-sum, column-sum}
 use Rattle.nodes.specs.Sets.{All}
 use Rattle.arrays.specs.Arrays.{Filled}
+use Rattle.at_least.specs.AtLeast.{AtLeast}
 use Rattle.cells.specs.Cells.{paddedIn, keptIn}
 use Rattle.pairs.specs.declared.free.Free.{Free}
 use Rattle.pairs.specs.Pairs.{allowed, taken, Paired, Rooms, CanMatch, Matched, Stuck}
 use Rattle.pairs.proofs.Counts.{never-stuck, taken-all}
 use Rattle.pairs.proofs.Matches.{all-free}
 use Rattle.holds.specs.declared.turns.Turn.{Turn}
-use Rattle.holds.specs.Levels.{Level}
 use Rattle.holds.specs.Holds.{CanHear, Hears, Takes, Next}
 use Rattle.holds.specs.Turns.{Standing, Even, Begun, CanPair, Ready, CanTake, Parted, CanTurn, Turned}
 use Rattle.holds.proofs.HearLaws.{lasting-idle, lasting-due, heard-idle, heard-due}
 use Rattle.holds.proofs.TakeLaws.{line-less}
 
 -- ---- pairs at a lower level
-pub lower-paired : {n : ℕ} {padded may may' source destination : List ℕ} {level level' : ℕ} → Level n padded may level → Level n padded may' level' → level' ≤ level
+pub lower-paired : {n : ℕ} {padded may may' source destination : List ℕ} {level level' : ℕ} → AtLeast n padded level may → AtLeast n padded level' may' → level' ≤ level
     → Paired n may source destination → Paired n may' source destination
 unfolding allowed
 lower-paired {source = source} a b le p = record {
@@ -50,7 +50,7 @@ none-paired may s d = record {
 -- ---- before the first turn
 pub begin-law : {n : ℕ} {table may may' source source' destination destination' : List ℕ} {level s d : ℕ} → Square n table → Rooms n may source destination
     → length may' ≡ length may → length source' ≡ length source → length destination' ≡ length destination
-    → Level n (paddedIn table) may' level → 1 ≤ level → level < 65536 → Filled n source' n → Filled n destination' n → All s → All d
+    → AtLeast n (paddedIn table) level may' → 1 ≤ level → level < 65536 → Filled n source' n → Filled n destination' n → All s → All d
     → Begun n table may' source' destination' (record { slots = 0; level = level; held = 0; free = record { sources = s; destinations = d } })
 begin-law {may' = may'} square rooms em es ed right some most no-source no-destination all-sources all-destinations = record {
   standing = record {
@@ -108,7 +108,7 @@ module _ {n : ℕ} {table may source destination : List ℕ} {level : ℕ} {free
       (λ ne. omega (arith, g .some))
 
   -- the same pairs at a lower level
-  pub seek-lower : {may' : List ℕ} {level' : ℕ} → length may' ≡ length may → Level n (paddedIn table) may' level' → 1 ≤ level' → level' < level
+  pub seek-lower : {may' : List ℕ} {level' : ℕ} → length may' ≡ length may → AtLeast n (paddedIn table) level' may' → 1 ≤ level' → level' < level
       → Standing n table may' source destination level' free
   seek-lower e right some lt = record {
     table-room = g .table-room;

@@ -6,18 +6,18 @@ use lib.ListN.{length, getD}
 use Rattle.sums.specs.Tables.{cell}
 use Rattle.star.specs.Tables.{Square}
 use Rattle.star.specs.Lines.{lineSum}
+use Rattle.at_least.specs.AtLeast.{AtLeast}
 use Rattle.cells.specs.Cells.{paddedIn}
 use Rattle.pairs.specs.declared.free.Free.{Free}
 use Rattle.pairs.specs.Pairs.{Paired, FreeNodes, Full, Rooms}
 use Rattle.holds.specs.declared.turns.Turn.{Turn}
-use Rattle.holds.specs.Levels.{Level}
 use Rattle.holds.specs.Holds.{Takes, Next}
 
 -- what holds between two turns: the pairs that still get at least `level` slots are those that may be paired, and the free nodes are known
 pub record Standing (n : ℕ) (table may source destination : List ℕ) (level : ℕ) (free : Free) : Type 0 where
   pub table-room : Square n table
   pub rooms : Rooms n may source destination
-  pub right : Level n (paddedIn table) may level
+  pub right : AtLeast n (paddedIn table) level may
   pub paired : Paired n may source destination
   pub lone : FreeNodes n source destination (free .sources) (free .destinations)
   pub some : 1 ≤ level

@@ -14,7 +14,7 @@ start-requires : tie.Need-start-requires
 start-requires c κs = c .before .before .before .before .before .before .before .before .before .before .before .before .pre .0
 
 allow-requires : tie.Need-allow-requires
-allow-requires c κs = (c .before .before .before .before .before .before .before .before .before .before .before .before .before .before .pre .0, c .before .before .before .before .before .before .before .before .before .before .before .before .before .before .pre .1 .mays)
+allow-requires c κs = (c .before .before .before .before .before .before .before .before .before .before .before .before .before .before .pre .0, c .before .before .before .before .before .before .before .before .before .before .before .before .before .before .pre .1 .mays, c .before .start .ensures .1)
 
 all-requires : tie.Need-all-requires
 all-requires c κs = tt

@@ -36,7 +36,7 @@ lower-requires : tie.Need-lower-requires Inv-loop μ-loop
 lower-requires c κs = (level-two (seek-matched (c .before .before .before .before .before .before .before .before .before .before .loop .inv .standing) (c .before .before .before .before .before .before .match-all .kept .1 .1 .0) (c .before .before .before .before .before .before .match-all .kept .1 .1 .1 .0) (c .before .before .before .before .before .before .match-all .ensures)) (c .before .before .before .before .before .before .before .before .before .before .before .before .before .before .before .before .pre .even) (c .before .before .before .before .before .before .match-all .ensures .none _ (c .before .first .ensures) (omega (arith, c .if1 .left))), c .before .before .before .before .before .before .before .before .before .before .loop .inv .standing .most)
 
 allow-requires : tie.Need-allow-requires Inv-loop μ-loop
-allow-requires c κs = (c .before .before .before .before .before .before .before .before .before .before .before .before .loop .inv .standing .table-room, c .before .before .before .before .before .before .before .before .before .before .before .before .loop .inv .standing .rooms .mays)
+allow-requires c κs = (c .before .before .before .before .before .before .before .before .before .before .before .before .loop .inv .standing .table-room, c .before .before .before .before .before .before .before .before .before .before .before .before .loop .inv .standing .rooms .mays, omega (arith, c .before .lower .ensures .1, c .before .before .before .before .before .before .before .before .before .before .before .before .loop .inv .standing .most))
 
 loop-less : tie.Need-loop-less Inv-loop μ-loop
 loop-less c = omega (arith, c .before .before .before .before .lower .ensures .1)

@@ -1,16 +1,16 @@
--- `holds::levels::join` meets its contract: the sets passed are those of the two halves. Assumes nothing.
+-- `at_least::join` meets its contract: the sets passed are those of the two halves. Assumes nothing.
 use Prim.Native.Nat.{_-_}
 use native.Mathlib.Omega.{arith}
 use borrow.Author.Needs.{needs}
-use Rattle.holds.proofs.HalfLaws.{Joining, join-start, join-step, join-end}
-use Rattle.holds.proofs.levels.join.Statement.{statement}
-use Rattle.holds.proofs.levels.join.Tie as tie
+use Rattle.at_least.proofs.HalfLaws.{Joining, join-start, join-step, join-end}
+use Rattle.at_least.proofs.join.Statement.{statement}
+use Rattle.at_least.proofs.join.Tie as tie
 
 abbrev Inv-loop : tie.InvT-loop
-Inv-loop n low high may₀ j₀ may j = Joining n low high may₀ may j
+Inv-loop n low high sets₀ j₀ sets j = Joining n low high sets₀ sets j
 
 abbrev μ-loop : tie.MeasureT-loop
-μ-loop n low high may₀ j₀ may j = n - j
+μ-loop n low high sets₀ j₀ sets j = n - j
 
 loop-holds : tie.Need-loop-holds Inv-loop μ-loop
 loop-holds c = join-start _ _ _ _
@@ -30,11 +30,11 @@ shared-slice-read-joined-2 c = omega (arith, c .before .before .before .before .
 joined-requires : tie.Need-joined-requires Inv-loop μ-loop
 joined-requires c κs = search needs
 
-mul-may : tie.Need-mul-may Inv-loop μ-loop
-mul-may c = omega (arith, c .before .before .before .before .before .before .before .before .pre)
+mul-sets : tie.Need-mul-sets Inv-loop μ-loop
+mul-sets c = omega (arith, c .before .before .before .before .before .before .before .before .pre)
 
-slice-write-may : tie.Need-slice-write-may Inv-loop μ-loop
-slice-write-may c = omega (arith, c .before .before .before .before .before .before .before .before .pre .2, c .before .before .before .before .loop .inv .len)
+slice-write-sets : tie.Need-slice-write-sets Inv-loop μ-loop
+slice-write-sets c = omega (arith, c .before .before .before .before .before .before .before .before .pre .2, c .before .before .before .before .loop .inv .len)
 
 add-j : tie.Need-add-j Inv-loop μ-loop
 add-j c = omega (arith, c .before .before .before .before .before .before .before .before .pre)
@@ -63,8 +63,8 @@ join-spec =
     mul-joined-2
     shared-slice-read-joined-2
     joined-requires
-    mul-may
-    slice-write-may
+    mul-sets
+    slice-write-sets
     add-j
     loop-less
     loop-again

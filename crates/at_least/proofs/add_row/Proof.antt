@@ -1,23 +1,22 @@
--- `holds::levels::allow_row` meets its contract: the source has joined the sets passed where it may, and nobody else has. Assumes nothing.
+-- `at_least::add_row` meets its contract: the row has joined the sets passed where its cell is at least so much, and nobody else has. Assumes nothing.
 use Prim.Native.Nat.{_-_}
 use native.Mathlib.Omega.{arith}
 use borrow.Author.Tests.{leb-true, leb-false}
-use Rattle.cells.specs.Cells.{paddedIn}
-use Rattle.holds.proofs.HalfLaws.{RowJoining, row-start, row-step, row-end}
-use Rattle.holds.proofs.levels.allow_row.Statement.{statement}
-use Rattle.holds.proofs.levels.allow_row.Tie as tie
+use Rattle.at_least.proofs.HalfLaws.{RowJoining, row-start, row-step, row-end}
+use Rattle.at_least.proofs.add_row.Statement.{statement}
+use Rattle.at_least.proofs.add_row.Tie as tie
 
 abbrev Inv-loop : tie.InvT-loop
-Inv-loop n table level half₀ i bit j₀ half j = RowJoining n (paddedIn table) level half₀ half i bit j
+Inv-loop n table least half₀ i bit j₀ half j = RowJoining n table least half₀ half i bit j
 
 abbrev μ-loop : tie.MeasureT-loop
-μ-loop n table level half₀ i bit j₀ half j = n - j
+μ-loop n table least half₀ i bit j₀ half j = n - j
 
 loop-holds : tie.Need-loop-holds Inv-loop μ-loop
 loop-holds c = row-start _ _ _ _ _ _
 
-padded-requires : tie.Need-padded-requires Inv-loop μ-loop
-padded-requires c κs = (c .before .before .before .before .pre .0, (c .before .before .before .before .pre .2, c .loop-test .taken))
+get-requires : tie.Need-get-requires Inv-loop μ-loop
+get-requires c κs = (c .before .before .before .before .pre .0, (c .before .before .before .before .pre .2, c .loop-test .taken))
 
 mul-half-with-where : tie.Need-mul-half-with-where Inv-loop μ-loop
 mul-half-with-where c = omega (arith, c .before .before .before .before .before .pre .0 .nodes)
@@ -41,7 +40,7 @@ loop-less : tie.Need-loop-less Inv-loop μ-loop
 loop-less c = omega arith
 
 loop-again : tie.Need-loop-again Inv-loop μ-loop
-loop-again c = row-step (c .before .before .before .before .before .before .before .pre .1) (c .before .before .before .before .loop .inv) (c .before .before .before .loop-test .taken) _ (λ e. omega (arith, c .before .before .padded .ensures .0, leb-true (c .before .before .before .before .before .before .before .args .level) _ e)) (λ e. omega (arith, c .before .before .padded .ensures .0, leb-false (c .before .before .before .before .before .before .before .args .level) _ e)) (c .half-with-where .ensures)
+loop-again c = row-step (c .before .before .before .before .before .before .before .pre .1) (c .before .before .before .before .loop .inv) (c .before .before .before .loop-test .taken) _ (λ e. omega (arith, c .before .before .get .ensures, leb-true (c .before .before .before .before .before .before .before .args .least) _ e)) (λ e. omega (arith, c .before .before .get .ensures, leb-false (c .before .before .before .before .before .before .before .args .least) _ e)) (c .half-with-where .ensures)
 
 same-length : tie.Need-same-length Inv-loop μ-loop
 same-length c = c .before .loop .inv .len
@@ -49,14 +48,14 @@ same-length c = c .before .loop .inv .len
 returns : tie.Need-returns Inv-loop μ-loop
 returns c = row-end (c .before .loop .inv) (c .loop-test .left)
 
-pub allow-row-spec : {M : Type 1} → statement M
-allow-row-spec =
+pub add-row-spec : {M : Type 1} → statement M
+add-row-spec =
     tie.close
     (tie.spec
     Inv-loop
     μ-loop
     loop-holds
-    padded-requires
+    get-requires
     mul-half-with-where
     slice-read-half-with-where
     half-with-where-requires

@@ -1,0 +1,2 @@
+-- The laws of sets that are made in halves.
+pub mod HalfLaws
