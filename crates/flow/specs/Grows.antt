@@ -4,9 +4,9 @@ use mathlib.Core.Path.{_≡_}
 use mathlib.Core.List.{List}
 use lib.ListN.{length, getD}
 use Rattle.sums.specs.Tables.{cell}
-use Rattle.growth.specs.Growth.{Below, Kept}
+use Rattle.growth.specs.Growth.{Below, SpansKept}
 use Rattle.growth.specs.Sides.{Sides}
-use Rattle.walks.specs.Ways.{Tables}
+use Rattle.walks.specs.Paths.{PathLists}
 
 -- a matrix of zeros, to begin with
 pub record Empty (n : ℕ) (bound a room marks : List ℕ) : Type 0 where
@@ -17,14 +17,14 @@ pub record Empty (n : ℕ) (bound a room marks : List ℕ) : Type 0 where
 
 pub record CanGrow (n : ℕ) (bound a room offers takers rows columns at to marks : List ℕ) : Type 0 where
   pub sides : Sides n bound a offers takers
-  pub tables : Tables n rows columns at to 0
+  pub lists : PathLists n rows columns at to 0
   pub rooms : 2 * n ≤ length room
   pub lines : 2 * n ≤ length marks
 
 -- a matrix in which nothing can go from a row with room to a column with room; the marks show it
-pub record Full (n : ℕ) (bound a room a' room' marks' : List ℕ) : Type 0 where
+pub record Grown (n : ℕ) (bound a room a' room' marks' : List ℕ) : Type 0 where
   pub below : (i j : ℕ) → i < n → j < n → cell n a' i j ≤ cell n bound i j
-  pub kept : Kept n a room a' room'
+  pub kept : SpansKept n a room a' room'
   pub rows : (i : ℕ) → i < n → getD marks' i 0 ≡ 0 → getD room' i 0 ≡ 0
   pub columns : (j : ℕ) → j < n → 0 < getD marks' (n + j) 0 → getD room' (n + j) 0 ≡ 0
   pub full : (i j : ℕ) → i < n → j < n → 0 < getD marks' i 0 → getD marks' (n + j) 0 ≡ 0 → cell n a' i j ≡ cell n bound i j

@@ -1,4 +1,4 @@
-// A matrix grows along ways from rows with room to columns with room, until there is none.
+// A matrix grows along paths from rows with room to columns with room, until there is none.
 use arrays::lists;
 use growth::sides::roomy;
 use layers::search;
@@ -6,9 +6,9 @@ use walks::walk::drain;
 ghost use Prim.Native.Nat.{_*_, _≤_};
 ghost use lib.ListN.{length};
 ghost use Rattle.growth.specs.Sides.{Sides};
-ghost use Rattle.flow.specs.Grows.{CanGrow, Full};
+ghost use Rattle.flow.specs.Grows.{CanGrow, Grown};
 
-// With lists for the layers and for a way.
+// With lists for the layers and for a path.
 fn grow_with(
     n: usize,
     bound: &[u32],
@@ -23,7 +23,7 @@ fn grow_with(
     marks: &mut [u8],
 )
     requires { ⌜ CanGrow n (now bound) (now a) (now room) (now offers) (now takers) (now rows) (now columns) (now at) (now to) (now marks) ⌝ }
-    ensures { λ _. ⌜ Full n (now (bound .entry)) (now (a .entry)) (now (room .entry)) (now (a .exit)) (now (room .exit)) (now (marks .exit)) ⌝ }
+    ensures { λ _. ⌜ Grown n (now (bound .entry)) (now (a .entry)) (now (room .entry)) (now (a .exit)) (now (room .exit)) (now (marks .exit)) ⌝ }
 {
     loop {
         let roots = roomy(n, room, 0);
@@ -47,7 +47,7 @@ pub fn grow(
     marks: &mut [u8],
 )
     requires { ⌜ (Sides n (now bound) (now a) (now offers) (now takers)) × (2 * n ≤ length (now room)) × (2 * n ≤ length (now marks)) ⌝ }
-    ensures { λ _. ⌜ Full n (now (bound .entry)) (now (a .entry)) (now (room .entry)) (now (a .exit)) (now (room .exit)) (now (marks .exit)) ⌝ }
+    ensures { λ _. ⌜ Grown n (now (bound .entry)) (now (a .entry)) (now (room .entry)) (now (a .exit)) (now (room .exit)) (now (marks .exit)) ⌝ }
 {
     let mut rows = [0u64; 65];
     let mut columns = [0u64; 65];

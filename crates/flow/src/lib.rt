@@ -11,12 +11,12 @@ ghost use Prim.Native.Nat.{_*_, _≤_};
 ghost use lib.ListN.{length};
 ghost use Rattle.flow.specs.Flows.{Feasible, Closed};
 ghost use Rattle.flow.specs.Certified.{Bounded, Certified};
-ghost use Rattle.flow.specs.Grows.{Empty, Full};
+ghost use Rattle.flow.specs.Grows.{Empty, Grown};
 
 // From a matrix of zeros, with lists for the sets: at first every row can give where its bound is at least 1, and no column takes.
 fn largest_from(n: usize, bound: &[u32], a: &mut [u32], room: &mut [u32], marks: &mut [u8])
     requires { ⌜ Empty n (now bound) (now a) (now room) (now marks) ⌝ }
-    ensures { λ _. ⌜ Full n (now (bound .entry)) (now (a .entry)) (now (room .entry)) (now (a .exit)) (now (room .exit)) (now (marks .exit)) ⌝ }
+    ensures { λ _. ⌜ Grown n (now (bound .entry)) (now (a .entry)) (now (room .entry)) (now (a .exit)) (now (room .exit)) (now (marks .exit)) ⌝ }
 {
     let mut offers = [0u64; 64];
     let mut takers = [0u64; 64];
@@ -29,7 +29,7 @@ fn largest_from(n: usize, bound: &[u32], a: &mut [u32], room: &mut [u32], marks:
 // The same. Where no row has room, or no column, there is nothing to do: no line is reached, or every line may be.
 fn largest_within(n: usize, bound: &[u32], a: &mut [u32], room: &mut [u32], marks: &mut [u8])
     requires { ⌜ Empty n (now bound) (now a) (now room) (now marks) ⌝ }
-    ensures { λ _. ⌜ Full n (now (bound .entry)) (now (a .entry)) (now (room .entry)) (now (a .exit)) (now (room .exit)) (now (marks .exit)) ⌝ }
+    ensures { λ _. ⌜ Grown n (now (bound .entry)) (now (a .entry)) (now (room .entry)) (now (a .exit)) (now (room .exit)) (now (marks .exit)) ⌝ }
 {
     if nodes::first(roomy(n, room, 0)) >= n {
         mark(n, marks, nodes::all(), nodes::all());

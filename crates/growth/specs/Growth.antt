@@ -20,7 +20,7 @@ unfoldable pub span : (n : ℕ) (a room : List ℕ) (ℓ : ℕ) → ℕ
 span n a room ℓ = lineSum n a ℓ + getD room ℓ 0
 
 -- each line's sum and room together did not change
-pub record Kept (n : ℕ) (a room a' room' : List ℕ) : Type 0 where
+pub record SpansKept (n : ℕ) (a room a' room' : List ℕ) : Type 0 where
   pub spans : (ℓ : ℕ) → ℓ < 2 * n → span n a' room' ℓ ≡ span n a room ℓ
 
 -- what all rows may still take

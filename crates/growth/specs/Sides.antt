@@ -4,8 +4,9 @@ use mathlib.Core.Path.{_≡_}
 use mathlib.Core.List.{List}
 use lib.ListN.{length, getD, set}
 use Rattle.sums.specs.Tables.{cell}
-use Rattle.nodes.specs.Sets.{member}
-use Rattle.growth.specs.Growth.{Below, Kept}
+use Rattle.nodes.specs.Sets.{member, Within}
+use Rattle.star.specs.Lines.{lineSum}
+use Rattle.growth.specs.Growth.{Below, SpansKept, only}
 
 -- the sets are right for the matrix
 pub record Sides (n : ℕ) (bound a offers takers : List ℕ) : Type 0 where
@@ -18,6 +19,7 @@ pub record Sides (n : ℕ) (bound a offers takers : List ℕ) : Type 0 where
 -- those of n lines from `from` on that have room
 pub record Open (n : ℕ) (room : List ℕ) (from s : ℕ) : Type 0 where
   pub members : (k : ℕ) → k < n → member k s ≡ min 1 (getD room (from + k) 0)
+  pub within : Within n s
 
 -- row i can give x more to column j, or x less
 pub record CanMore (n : ℕ) (bound a : List ℕ) (i j x : ℕ) : Type 0 where
@@ -42,6 +44,14 @@ pub record Less (n : ℕ) (bound a a' offers' takers' : List ℕ) (i j x : ℕ) 
   pub sides : Sides n bound a' offers' takers'
 
 -- the matrix has changed, the sets are right again, and each line's limit is kept
-pub record Filled (n : ℕ) (bound a room a' room' offers' takers' : List ℕ) : Type 0 where
+pub record Grew (n : ℕ) (bound a room a' room' offers' takers' : List ℕ) : Type 0 where
   pub sides : Sides n bound a' offers' takers'
-  pub kept : Kept n a room a' room'
+  pub kept : SpansKept n a room a' room'
+
+-- row i has given x to column j, out of its own room and as much as is wanted at most; the column's room is not touched
+pub record GrewAt (n : ℕ) (bound a room a' room' offers' takers' : List ℕ) (i j want x : ℕ) : Type 0 where
+  pub sides : Sides n bound a' offers' takers'
+  pub most : x ≤ want
+  pub row : x ≤ getD room i 0
+  pub rooms : room' ≡ set room i (getD room i 0 - x)
+  pub sums : (ℓ : ℕ) → ℓ < 2 * n → lineSum n a' ℓ ≡ lineSum n a ℓ + only ℓ i x + only ℓ (n + j) x

@@ -6,9 +6,9 @@ use star::numbers::smaller;
 use star::tables::get;
 ghost use Prim.Native.Nat.{_*_, _<_, _≤_};
 ghost use lib.ListN.{length};
-ghost use Rattle.growth.specs.Sides.{Sides, Filled};
+ghost use Rattle.growth.specs.Sides.{Sides, Grew, GrewAt};
 
-// Row i gives column j what their bound and both rooms allow.
+// Row i gives column j what their bound, the row's room and what the column wants allow. Gives how much that is.
 fn fill_at(
     n: usize,
     bound: &[u32],
@@ -18,19 +18,20 @@ fn fill_at(
     takers: &mut [u64],
     i: usize,
     j: usize,
-)
+    want: u32,
+) -> u32
     requires { ⌜ Sides n (now bound) (now a) (now offers) (now takers) ⌝ }
     requires { ⌜ (2 * n ≤ length (now room)) × (i < n) × (j < n) ⌝ }
-    ensures { λ _. ⌜ Filled n (now (bound .entry)) (now (a .entry)) (now (room .entry)) (now (a .exit)) (now (room .exit)) (now (offers .exit)) (now (takers .exit)) ⌝ }
+    ensures { λ r. ⌜ GrewAt n (now (bound .entry)) (now (a .entry)) (now (room .entry)) (now (a .exit)) (now (room .exit)) (now (offers .exit)) (now (takers .exit)) i j want r ⌝ }
 {
     let spare = get(n, bound, i, j) - get(n, a, i, j);
-    let x = smaller(spare, smaller(room[i], room[n + j]));
+    let x = smaller(spare, smaller(room[i], want));
     if x == 0 {
-        return;
+        return 0;
     }
     more(n, bound, a, offers, takers, i, j, x);
     room[i] -= x;
-    room[n + j] -= x;
+    x
 }
 
 // Column j takes from some rows while it has room. Says which rows may still have room, of those that may have had.
@@ -47,22 +48,25 @@ fn fill_some(
 ) -> u64
     requires { ⌜ Sides n (now bound) (now a) (now offers) (now takers) ⌝ }
     requires { ⌜ (2 * n ≤ length (now room)) × (j < n) ⌝ }
-    ensures { λ _. ⌜ Filled n (now (bound .entry)) (now (a .entry)) (now (room .entry)) (now (a .exit)) (now (room .exit)) (now (offers .exit)) (now (takers .exit)) ⌝ }
+    ensures { λ _. ⌜ Grew n (now (bound .entry)) (now (a .entry)) (now (room .entry)) (now (a .exit)) (now (room .exit)) (now (offers .exit)) (now (takers .exit)) ⌝ }
 {
     let mut left = roomy;
     let mut todo = some;
-    while room[n + j] > 0 {
+    let mut want = room[n + j];
+    while want > 0 {
         let i = nodes::first(todo);
         if i >= n {
-            return left;
+            break;
         }
         todo = nodes::without(todo, i);
-        fill_at(n, bound, a, room, offers, takers, i, j);
+        let x = fill_at(n, bound, a, room, offers, takers, i, j, want);
+        want -= x;
         if room[i] > 0 {
             continue;
         }
         left = nodes::without(left, i);
     }
+    room[n + j] = want;
     left
 }
 
@@ -78,7 +82,7 @@ pub fn fill(
 )
     requires { ⌜ Sides n (now bound) (now a) (now offers) (now takers) ⌝ }
     requires { ⌜ 2 * n ≤ length (now room) ⌝ }
-    ensures { λ _. ⌜ Filled n (now (bound .entry)) (now (a .entry)) (now (room .entry)) (now (a .exit)) (now (room .exit)) (now (offers .exit)) (now (takers .exit)) ⌝ }
+    ensures { λ _. ⌜ Grew n (now (bound .entry)) (now (a .entry)) (now (room .entry)) (now (a .exit)) (now (room .exit)) (now (offers .exit)) (now (takers .exit)) ⌝ }
 {
     let mut left = rows;
     let mut late = nodes::all();

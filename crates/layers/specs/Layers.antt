@@ -4,7 +4,7 @@ use Prim.Native.Nat.{ℕ, _+_, _*_, _≤_, _<_}
 use mathlib.Core.Path.{_≡_}
 use mathlib.Core.List.{List}
 use lib.ListN.{length, getD}
-use Rattle.nodes.specs.Sets.{member}
+use Rattle.nodes.specs.Sets.{member, Within}
 
 -- two sets have a node below n in common
 pub record Meets (n s t : ℕ) : Type 0 where
@@ -18,6 +18,7 @@ pub record Leading (n : ℕ) (list : List ℕ) (which to r : ℕ) : Type 0 where
   pub among : (i : ℕ) → i < n → member i r ≡ 1 → member i which ≡ 1
   pub meets : (i : ℕ) → i < n → member i r ≡ 1 → Meets n (getD list i 0) to
   pub all : (i j : ℕ) → i < n → j < n → member i which ≡ 1 → member j (getD list i 0) ≡ 1 → member j to ≡ 1 → member i r ≡ 1
+  pub within : Within n r
 
 -- each node of a layer was reached from the layer before
 pub record Layered (n : ℕ) (offers takers rows columns : List ℕ) (last : ℕ) : Type 0 where
@@ -45,13 +46,13 @@ pub record Unreached (n : ℕ) (offers takers marks : List ℕ) (roots goals : �
   pub ends : (j : ℕ) → j < n → 0 < getD marks (n + j) 0 → member j goals ≡ 0
 
 -- lists for the layers
-pub record Lists (n : ℕ) (rows columns : List ℕ) : Type 0 where
+pub record LayerLists (n : ℕ) (rows columns : List ℕ) : Type 0 where
   pub nodes : n ≤ 64
   pub layers : n < length rows
   pub others : n < length columns
 
 -- the search ends in either
-pub record Searched (n : ℕ) (offers takers rows' columns' marks' : List ℕ) (roots goals r : ℕ) : Type 0 where
+pub record SearchEnded (n : ℕ) (offers takers rows' columns' marks' : List ℕ) (roots goals r : ℕ) : Type 0 where
   pub found : r ≤ n → Found n offers takers rows' columns' roots goals r
   pub none : n < r → Unreached n offers takers marks' roots goals
 

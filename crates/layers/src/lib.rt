@@ -4,24 +4,21 @@ use arrays::lists;
 ghost use Prim.Native.Nat.{_+_, _*_, _<_, _≤_};
 ghost use lib.ListN.{length};
 ghost use mathlib.Core.Path.{_≡_};
-ghost use Rattle.nodes.specs.Sets.{member};
-ghost use Rattle.layers.specs.Layers.{Leading, Lists, Searched, Marked};
+ghost use Rattle.nodes.specs.Sets.{member, Within};
+ghost use Rattle.layers.specs.Layers.{Leading, LayerLists, SearchEnded, Marked};
 
-// Those of some nodes whose set meets another.
+// Those of some nodes whose set meets another. Each node is asked, whether it is one of them or not: that takes less time than to go from one to the next.
 fn leading(n: usize, list: &[u64], which: u64, to: u64) -> u64
-    requires { ⌜ (n ≤ 64) × (n ≤ length (now list)) ⌝ }
+    requires { ⌜ (n ≤ 64) × (n ≤ length (now list)) × (Within n to) ⌝ }
     ensures { λ r. ⌜ Leading n (now (list .entry)) which to r ⌝ }
 {
     let mut s = nodes::none();
-    let mut left = which;
-    loop {
-        let i = nodes::first(left);
-        if i >= n {
-            return s;
-        }
-        s = nodes::with_where(s, i, nodes::first(nodes::both(lists::set_at(list, i), to)) < n);
-        left = nodes::without(left, i);
+    let mut i = 0;
+    while i < n {
+        s = nodes::with_where(s, i, nodes::first(nodes::both(lists::set_at(list, i), to)) < 64);
+        i += 1;
     }
+    nodes::both(s, which)
 }
 
 // 0 where node k is in the set, and 1 elsewhere.
@@ -61,8 +58,8 @@ pub fn search(
     roots: u64,
     goals: u64,
 ) -> usize
-    requires { ⌜ (n ≤ length (now offers)) × (n ≤ length (now takers)) × (Lists n (now rows) (now columns)) × (2 * n ≤ length (now marks)) ⌝ }
-    ensures { λ r. ⌜ Searched n (now (offers .entry)) (now (takers .entry)) (now (rows .exit)) (now (columns .exit)) (now (marks .exit)) roots goals r ⌝ }
+    requires { ⌜ (n ≤ length (now offers)) × (n ≤ length (now takers)) × (LayerLists n (now rows) (now columns)) × (2 * n ≤ length (now marks)) × (Within n roots) ⌝ }
+    ensures { λ r. ⌜ SearchEnded n (now (offers .entry)) (now (takers .entry)) (now (rows .exit)) (now (columns .exit)) (now (marks .exit)) roots goals r ⌝ }
 {
     let mut fresh_rows = nodes::minus(nodes::all(), roots);
     let mut fresh_columns = nodes::all();

@@ -1,3 +1,4 @@
 -- The laws of sets of nodes.
 pub mod Members
+pub mod SetLaws
 pub mod Sizes

@@ -13,6 +13,10 @@ member (suc i) s = member i (s / 2)
 unfoldable pub size : (n s : ℕ) → ℕ
 size n s = sumTo n (λ i. member i s)
 
+-- no node from n on is in s
+pub record Within (n s : ℕ) : Type 0 where
+  pub beyond : (i : ℕ) → n ≤ i → member i s ≡ 0
+
 pub record None (r : ℕ) : Type 0 where
   pub out : (i : ℕ) → member i r ≡ 0
 

@@ -1,3 +1,3 @@
--- Ways through layers, and what goes along them.
-pub mod Ways
+-- Paths through layers, and what goes along them.
+pub mod Paths
 pub mod Walks

@@ -1,13 +1,13 @@
--- Walk after walk: each sends what can go along one way through the layers, until the last layer is empty.
+-- Walk after walk: each sends what can go along one path through the layers, until the last layer is empty.
 use Prim.Native.Nat.{ℕ, _+_, _-_, _*_, _≤_, _<_}
 use mathlib.Core.Path.{_≡_}
 use mathlib.Core.List.{List}
 use lib.ListN.{length, getD, set}
 use Rattle.nodes.specs.Sets.{member}
-use Rattle.growth.specs.Growth.{Kept, rowRoom}
+use Rattle.growth.specs.Growth.{SpansKept, rowRoom}
 use Rattle.growth.specs.Sides.{Sides}
 use Rattle.layers.specs.Layers.{Layered, Apart, Meets}
-use Rattle.walks.specs.Ways.{Tables, Fewer, weight}
+use Rattle.walks.specs.Paths.{PathLists, Thinned, weight}
 
 -- the rows of the first layer have room, and so have the columns of the last
 pub record Roomy (n : ℕ) (room rows columns : List ℕ) (last : ℕ) : Type 0 where
@@ -33,23 +33,23 @@ pub record CanSpend (n : ℕ) (room rows columns : List ℕ) (i j last x : ℕ) 
 -- it is; what has no room left is in the first layer's rows or the last layer's columns no more
 pub record Spent (n : ℕ) (room rows columns room' rows' columns' : List ℕ) (i j last x : ℕ) : Type 0 where
   pub cells : room' ≡ set (set room i (getD room i 0 - x)) (n + j) (getD (set room i (getD room i 0 - x)) (n + j) 0 - x)
-  pub fewer : Fewer n rows columns rows' columns' last
+  pub fewer : Thinned n rows columns rows' columns' last
   pub row : getD room' i 0 ≡ 0 → member i (getD rows' 0 0) ≡ 0
   pub column : getD room' (n + j) 0 ≡ 0 → member j (getD columns' last 0) ≡ 0
 
 pub record CanWalk (n : ℕ) (bound a room offers takers rows columns at to : List ℕ) (e last : ℕ) : Type 0 where
   pub sides : Sides n bound a offers takers
-  pub tables : Tables n rows columns at to last
+  pub lists : PathLists n rows columns at to last
   pub rooms : 2 * n ≤ length room
   pub apart : Apart n columns last
   pub roomy : Roomy n room rows columns last
   pub column : e < n
   pub in' : member e (getD columns last 0) ≡ 1
 
--- something has gone a way, or a node has left its layer; on the layers of a search something has gone
+-- something has gone along a path, or a node has left its layer; on the layers of a search something has gone
 pub record Walked (n : ℕ) (bound a room offers takers rows columns a' room' offers' takers' rows' columns' : List ℕ) (last : ℕ) : Type 0 where
   pub sides : Sides n bound a' offers' takers'
-  pub kept : Kept n a room a' room'
+  pub kept : SpansKept n a room a' room'
   pub apart : Apart n columns' last
   pub roomy : Roomy n room' rows' columns' last
   pub most : rowRoom n room' ≤ rowRoom n room
@@ -59,7 +59,7 @@ pub record Walked (n : ℕ) (bound a room offers takers rows columns a' room' of
 -- the layers of a search that has found a column with room
 pub record CanDrain (n : ℕ) (bound a room offers takers rows columns at to : List ℕ) (last : ℕ) : Type 0 where
   pub sides : Sides n bound a offers takers
-  pub tables : Tables n rows columns at to last
+  pub lists : PathLists n rows columns at to last
   pub rooms : 2 * n ≤ length room
   pub apart : Apart n columns last
   pub roomy : Roomy n room rows columns last
@@ -69,5 +69,5 @@ pub record CanDrain (n : ℕ) (bound a room offers takers rows columns at to : L
 -- the matrix has changed, and the rows have less room
 pub record Drained (n : ℕ) (bound a room a' room' offers' takers' : List ℕ) : Type 0 where
   pub sides : Sides n bound a' offers' takers'
-  pub kept : Kept n a room a' room'
+  pub kept : SpansKept n a room a' room'
   pub falls : rowRoom n room' < rowRoom n room

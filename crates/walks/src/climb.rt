@@ -1,8 +1,8 @@
-// The search for a way, from its end up.
+// The search for a path, from its end up.
 use arrays::lists;
-ghost use Rattle.walks.specs.Ways.{CanClimb, Climbed};
+ghost use Rattle.walks.specs.Paths.{CanClimb, Climbed};
 
-// Looks for a way from column e of the last layer up to a row of the first. A node that leads no further leaves its layer. False where e has no way,
+// Looks for a path from column e of the last layer up to a row of the first. A node that leads no further leaves its layer. False where e has no path,
 // and has left.
 pub fn climb(
     n: usize,

@@ -1,12 +1,12 @@
-// What goes along a way.
+// What goes along a path.
 use arrays::lists;
 use growth::sides::less;
 use growth::sides::more;
 use star::numbers::smaller;
 use star::tables::get;
-ghost use Rattle.walks.specs.Ways.{CanCarry, Carried, CanSend, Sent};
+ghost use Rattle.walks.specs.Paths.{CanCarry, Carried, CanSend, Sent};
 
-// The most that can go the whole way: what each of its steps can take, and the room at both ends.
+// The most that can go the whole path: what each of its steps can take, and the room at both ends.
 pub fn bottleneck(
     n: usize,
     bound: &[u32],
@@ -34,7 +34,7 @@ pub fn bottleneck(
     }
 }
 
-// Sends x along a way.
+// Sends x along a path.
 pub fn send(
     n: usize,
     bound: &[u32],

@@ -38,7 +38,7 @@ fn spend(
     leave_if_none(columns, last, j, room[n + j]);
 }
 
-// Sends what can go to column e along one way; where there is none, e leaves its layer.
+// Sends what can go to column e along one path; where there is none, e leaves its layer.
 fn walk(
     n: usize,
     bound: &[u32],
