@@ -43,10 +43,9 @@ unfoldable pub weight : (n : ℕ) (rows columns : List ℕ) (last : ℕ) → ℕ
 weight n rows columns last = sumTo (last + 1) (λ k. size n (getD rows k 0) + size n (getD columns k 0))
 
 -- layers have only lost nodes
-pub record Thinned (n : ℕ) (rows columns rows' columns' : List ℕ) (last : ℕ) : Type 0 where
-  pub row : (k i : ℕ) → i < n → member i (getD rows' k 0) ≡ 1 → member i (getD rows k 0) ≡ 1
-  pub column : (k j : ℕ) → j < n → member j (getD columns' k 0) ≡ 1 → member j (getD columns k 0) ≡ 1
-  pub most : weight n rows' columns' last ≤ weight n rows columns last
+pub record Thinned (rows columns rows' columns' : List ℕ) : Type 0 where
+  pub row : (k i : ℕ) → member i (getD rows' k 0) ≡ 1 → member i (getD rows k 0) ≡ 1
+  pub column : (k j : ℕ) → member j (getD columns' k 0) ≡ 1 → member j (getD columns k 0) ≡ 1
 
 pub record CanClimb (n : ℕ) (offers takers rows columns at to : List ℕ) (e last : ℕ) : Type 0 where
   pub offered : n ≤ length offers
@@ -59,9 +58,9 @@ pub record CanClimb (n : ℕ) (offers takers rows columns at to : List ℕ) (e l
 -- a path from a row of the first layer; or none, and then a node has left its layer, which does not happen where each node was reached from the layer before
 pub record Climbed (n : ℕ) (offers takers rows columns rows' columns' at' to' : List ℕ) (e last : ℕ) (r : Bool) : Type 0 where
   pub path : r ≡ true → Path n at' to' e last
-  pub leads : r ≡ true → Follows offers takers at' to' last
+  pub follows : r ≡ true → Follows offers takers at' to' last
   pub start : r ≡ true → member (getD at' 0 0) (getD rows' 0 0) ≡ 1
-  pub fewer : Thinned n rows columns rows' columns' last
+  pub thinned : Thinned rows columns rows' columns'
   pub falls : r ≡ false → weight n rows' columns' last < weight n rows columns last
   pub sure : Layered n offers takers rows columns last → r ≡ true
 
@@ -70,7 +69,7 @@ pub record Climbed (n : ℕ) (offers takers rows columns rows' columns' at' to' 
 pub record CanCarry (n : ℕ) (bound a room at to : List ℕ) (e last : ℕ) : Type 0 where
   pub below : Below n bound a
   pub path : Path n at to e last
-  pub carries : Passes n bound a at to last 1
+  pub passes : Passes n bound a at to last 1
   pub rooms : 2 * n ≤ length room
   pub start : 0 < getD room (getD at 0 0) 0
   pub ending : 0 < getD room (n + e) 0
@@ -80,14 +79,14 @@ pub record CanCarry (n : ℕ) (bound a room at to : List ℕ) (e last : ℕ) : T
 -- x can, and both ends have room for it
 pub record Carried (n : ℕ) (bound a room at to : List ℕ) (e last x : ℕ) : Type 0 where
   pub some : 0 < x
-  pub carries : Passes n bound a at to last x
+  pub passes : Passes n bound a at to last x
   pub start : x ≤ getD room (getD at 0 0) 0
   pub ending : x ≤ getD room (n + e) 0
 
 pub record CanSend (n : ℕ) (bound a offers takers at to : List ℕ) (e last x : ℕ) : Type 0 where
   pub sides : Sides n bound a offers takers
   pub path : Path n at to e last
-  pub carries : Passes n bound a at to last x
+  pub passes : Passes n bound a at to last x
   pub some : 0 < x
   pub ats : last < length at
   pub tos : last < length to

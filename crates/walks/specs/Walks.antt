@@ -33,7 +33,7 @@ pub record CanSpend (n : ℕ) (room rows columns : List ℕ) (i j last x : ℕ) 
 -- it is; what has no room left is in the first layer's rows or the last layer's columns no more
 pub record Spent (n : ℕ) (room rows columns room' rows' columns' : List ℕ) (i j last x : ℕ) : Type 0 where
   pub cells : room' ≡ set (set room i (getD room i 0 - x)) (n + j) (getD (set room i (getD room i 0 - x)) (n + j) 0 - x)
-  pub fewer : Thinned n rows columns rows' columns' last
+  pub thinned : Thinned rows columns rows' columns'
   pub row : getD room' i 0 ≡ 0 → member i (getD rows' 0 0) ≡ 0
   pub column : getD room' (n + j) 0 ≡ 0 → member j (getD columns' last 0) ≡ 0
 
