@@ -11,7 +11,7 @@ use Rattle.sums.proofs.Sums.{sum-one, sum-strict, hit-same, hit-other}
 use Rattle.nodes.specs.Sets.{member, size, Within, None, All, With, WithWhere, Both, Minus, First}
 use Rattle.nodes.proofs.Members.{member-lt}
 use Rattle.nodes.proofs.SetLaws.{both-in, both-left, both-right, minus-in, minus-out, minus-gone, minus-case, first-none}
-use Rattle.layers.specs.Layers.{Meets, Leading, Layered, Apart, Found, Unreached, SearchEnded, Marked}
+use Rattle.layers.specs.Layers.{Meets, Leading, Layered, Apart, Found, Unreached, LayerLists, SearchEnded, Marked}
 
 -- ---- the nodes that lead on
 -- the nodes below i have been asked
@@ -146,6 +146,14 @@ search-start n offers takers rows columns roots goals all all' fr few W A m A' =
   seen-columns = λ i j p q e. absurd (omega (arith, A' .in' j (omega arith)));
   shut = λ j p e. absurd (omega (arith, A' .in' j (omega arith)));
 }
+
+-- each turn reaches a row, so the lists are long enough
+module _ {n : ℕ} {offers takers rows columns rows₀ columns₀ : List ℕ} {roots goals fr fc here k : ℕ} (lists : LayerLists n rows₀ columns₀) (S : Searching n offers takers rows columns roots goals fr fc here k) where
+  pub fits-rows : length rows ≡ length rows₀ → k < length rows
+  fits-rows e = omega (arith, S .count, lists .layers)
+
+  pub fits-columns : length columns ≡ length columns₀ → k < length columns
+  fits-columns e = omega (arith, S .count, lists .others)
 
 module _ {n : ℕ} {offers takers rows columns : List ℕ} {roots goals fr fc here k new fc' : ℕ} (S : Searching n offers takers rows columns roots goals fr fc here k) (L : Leading n offers fc here new) (M : Minus fc new fc') where
   -- what is reached after the columns of this layer
