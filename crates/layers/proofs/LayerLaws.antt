@@ -1,4 +1,6 @@
--- The search: the nodes whose set meets another, layers that are reached one from the other, and the marks at the end. Assumes nothing.
+-- The search: the nodes whose set meets another, the marks, and layers that are reached one from the other. Each turn but the last reaches a row that was
+-- not, so that there are at most n more turns. The columns of a layer were not reached before it, so that no column is in two layers. What is reached leads
+-- to what is reached, but for the rows of the next layer; where that has none, to nothing else, and no column of it is a goal. Assumes nothing.
 use Prim.Native.Nat.{ℕ, _+_, _*_, _≤_, _<_}
 use native.Mathlib.Omega.{arith}
 use mathlib.Core.Path.{_≡_, refl, sym, _∙_, ap}
@@ -11,7 +13,7 @@ use Rattle.sums.proofs.Sums.{sum-one, sum-strict, hit-same, hit-other}
 use Rattle.nodes.specs.Sets.{member, size, Within, None, All, With, WithWhere, Both, Minus, First}
 use Rattle.nodes.proofs.Members.{member-lt}
 use Rattle.nodes.proofs.SetLaws.{both-in, both-left, both-right, minus-in, minus-out, minus-gone, minus-case, first-none}
-use Rattle.layers.specs.Layers.{Meets, Leading, Layered, Apart, Found, Unreached, LayerLists, SearchEnded, Marked}
+use Rattle.layers.specs.Layers.{Meets, Leading, Found, Unreached, LayerLists, SearchEnded, Marked}
 
 -- ---- the nodes that lead on
 -- the nodes below i have been asked
@@ -155,16 +157,19 @@ module _ {n : ℕ} {offers takers rows columns rows₀ columns₀ : List ℕ} {r
   pub fits-columns : length columns ≡ length columns₀ → k < length columns
   fits-columns e = omega (arith, S .count, lists .others)
 
-module _ {n : ℕ} {offers takers rows columns : List ℕ} {roots goals fr fc here k new fc' : ℕ} (S : Searching n offers takers rows columns roots goals fr fc here k) (L : Leading n offers fc here new) (M : Minus fc new fc') where
-  -- what is reached after the columns of this layer
-  reached-rows : (i j : ℕ) → i < n → j < n → member i fr ≡ 0 → member i (getD offers j 0) ≡ 1 → member j fc' ≡ 0
-  reached-rows i j p q e t =
-      by-eq (member i here) 1
-      (λ o. by-eq (member j fc) 0
-      (λ z. minus-out M j z)
-      (λ z. minus-gone M j (L .all j i q p (omega (arith, member-lt j fc)) t o)))
-      (λ ne. minus-out M j (S .seen-rows i j p q e ne t))
+-- a layer of rows that were not reached leaves fewer of them
+module _ {n : ℕ} {takers : List ℕ} {fr new here' g fr' : ℕ} (few : n ≤ 64) (L' : Leading n takers fr new here') (F' : First here' g) (lt : g < n) (M' : Minus fr here' fr') where
+  pub rows-fall : size n fr' < size n fr
+  unfolding size
+  rows-fall =
+      sum-strict n g (λ i. member i fr') (λ i. member i fr) lt (λ i p.
+      by-eq g i
+      (λ e.
+      let o : member i here' ≡ 1 = rw e at (F' .found (omega arith)) in
+      omega (arith, hit-same e, L' .among i p o, minus-gone M' i o))
+      (λ e. omega (arith, hit-other e, M' .members i)))
 
+module _ {n : ℕ} {offers takers rows columns : List ℕ} {roots goals fr fc here k new : ℕ} (S : Searching n offers takers rows columns roots goals fr fc here k) (L : Leading n offers fc here new) where
   module _ (top : ℕ) (sub : (j : ℕ) → member j top ≡ 1 → member j new ≡ 1) (fits : k < length rows) (fits' : k < length columns) where
     new-column : (m j : ℕ) → m ≤ k → j < n → member j (getD (set columns k top) m 0) ≡ 1 → Meets n (getD offers j 0) (getD (set rows k here) m 0)
     new-column m j le p e =
@@ -220,51 +225,51 @@ module _ {n : ℕ} {offers takers rows columns : List ℕ} {roots goals fr fc he
       none = λ over. absurd (omega (arith, S .count));
     }
 
-    module _ (over : n ≤ f) {here' g : ℕ} (L' : Leading n takers fr new here') (F' : First here' g) where
+  module _ {fc' : ℕ} (M : Minus fc new fc') where
+    -- what is reached after the columns of this layer
+    reached-rows : (i j : ℕ) → i < n → j < n → member i fr ≡ 0 → member i (getD offers j 0) ≡ 1 → member j fc' ≡ 0
+    reached-rows i j p q e t =
+        by-eq (member i here) 1
+        (λ o. by-eq (member j fc) 0
+        (λ z. minus-out M j z)
+        (λ z. minus-gone M j (L .all j i q p (omega (arith, member-lt j fc)) t o)))
+        (λ ne. minus-out M j (S .seen-rows i j p q e ne t))
+
+    module _ {ends f : ℕ} (B : Both new goals ends) (F : First ends f) (over : n ≤ f) where
       reached-shut : (j : ℕ) → j < n → member j fc' ≡ 0 → member j goals ≡ 0
       reached-shut j p e =
           by-eq (member j new) 1
           (λ o. by-eq (member j goals) 0 (λ z. z) (λ z. absurd (first-none F over j p (both-in B j o (omega (arith, member-lt j goals))))))
           (λ o. S .shut j p (minus-case M j e o))
 
-      -- nothing more is reached
-      search-none : n ≤ g → (marks : List ℕ) → Marked n fr fc' marks → Unreached n offers takers marks roots goals
-      search-none none marks K = record {
-        starts = λ i p e. omega (arith, K .rows i p, S .starts i p e);
-        columns = λ i j p q e t. omega (arith, K .columns j q, reached-rows i j p q (omega (arith, K .rows i p)) t);
-        rows = λ i j p q e t.
-            let z : member i fr ≡ 0 =
-                by-eq (member j new) 1
-                (λ o. by-eq (member i fr) 0 (λ z. z) (λ z. absurd (first-none F' none i p (L' .all i j p q (omega (arith, member-lt i fr)) t o))))
-                (λ o. S .seen-columns i j p q (minus-case M j (omega (arith, K .columns j q)) o) t)
-            in
-            omega (arith, K .rows i p);
-        ends = λ j p e. reached-shut j p (omega (arith, K .columns j p));
-      }
+      module _ {here' g : ℕ} (L' : Leading n takers fr new here') (F' : First here' g) where
+        -- nothing more is reached
+        search-none : n ≤ g → (marks : List ℕ) → Marked n fr fc' marks → Unreached n offers takers marks roots goals
+        search-none none marks K = record {
+          starts = λ i p e. omega (arith, K .rows i p, S .starts i p e);
+          columns = λ i j p q e t. omega (arith, K .columns j q, reached-rows i j p q (omega (arith, K .rows i p)) t);
+          rows = λ i j p q e t.
+              let z : member i fr ≡ 0 =
+                  by-eq (member j new) 1
+                  (λ o. by-eq (member i fr) 0 (λ z. z) (λ z. absurd (first-none F' none i p (L' .all i j p q (omega (arith, member-lt i fr)) t o))))
+                  (λ o. S .seen-columns i j p q (minus-case M j (omega (arith, K .columns j q)) o) t)
+              in
+              omega (arith, K .rows i p);
+          ends = λ j p e. reached-shut j p (omega (arith, K .columns j p));
+        }
 
-      pub ended-none : {rows' columns' marks : List ℕ} → n ≤ g → Marked n fr fc' marks → SearchEnded n offers takers rows' columns' marks roots goals (n + 1)
-      ended-none {marks = marks} none K = record {
-        found = λ le. absurd (omega arith);
-        none = λ more. search-none none marks K;
-      }
+        pub ended-none : {rows' columns' marks : List ℕ} → n ≤ g → Marked n fr fc' marks → SearchEnded n offers takers rows' columns' marks roots goals (n + 1)
+        ended-none {marks = marks} none K = record {
+          found = λ le. absurd (omega arith);
+          none = λ more. search-none none marks K;
+        }
 
-      -- one more layer
-      module _ (lt : g < n) {fr' : ℕ} (M' : Minus fr here' fr') where
-        pub rows-fall : size n fr' < size n fr
-        unfolding size
-        rows-fall =
-            sum-strict n g (λ i. member i fr') (λ i. member i fr) lt (λ i p.
-            by-eq g i
-            (λ e.
-            let o : member i here' ≡ 1 = rw e at (F' .found (omega arith)) in
-            omega (arith, hit-same e, L' .among i p o, minus-gone M' i o))
-            (λ e. omega (arith, hit-other e, M' .members i)))
-
-        pub search-step : k < length rows → k < length columns → Searching n offers takers (set rows k here) (set columns k new) roots goals fr' fc' here' (k + 1)
-        search-step fits fits' =
+        -- one more layer
+        pub search-step : {fr' : ℕ} → n ≤ 64 → g < n → Minus fr here' fr' → k < length rows → k < length columns → Searching n offers takers (set rows k here) (set columns k new) roots goals fr' fc' here' (k + 1)
+        search-step few lt M' fits fits' =
             let sub : (j : ℕ) → member j new ≡ 1 → member j new ≡ 1 = λ j e. e in
             record {
-              count = omega (arith, rows-fall, S .count);
+              count = omega (arith, rows-fall few L' F' lt M', S .count);
               inside = L' .within;
               column = λ m j p. new-column new sub fits fits' m j (omega arith);
               row = λ m i p. new-row new sub fits fits' m i (omega arith);
