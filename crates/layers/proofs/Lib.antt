@@ -1,0 +1,2 @@
+-- The laws of layers and of the search.
+pub mod LayerLaws
