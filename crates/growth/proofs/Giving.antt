@@ -12,7 +12,7 @@ use Rattle.sums.proofs.Tables.{set-else}
 use Rattle.star.specs.Lines.{lineSum}
 use Rattle.star.proofs.StoreLaws.{store-row, store-column, store-sum, store-below, store-here}
 use Rattle.nodes.specs.Sets.{member, With, Without}
-use Rattle.growth.specs.Growth.{Below, only}
+use Rattle.growth.specs.Growth.{only}
 use Rattle.growth.specs.Sides.{Sides, CanMore, CanLess, More, Less}
 use Rattle.growth.proofs.SetLaws.{set-member-here, set-member-off}
 

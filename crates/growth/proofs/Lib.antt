@@ -2,3 +2,4 @@
 pub mod SetLaws
 pub mod Giving
 pub mod Keeping
+pub mod Examples

@@ -1,5 +1,5 @@
--- `growth::fill::fill_some` meets its contract. The loop's invariant: the sets are right, and the spans are kept if the column's room is what it still wants.
--- The measure is what is left to do. Assumes nothing.
+-- `growth::fill::fill_some` meets its contract. The loop's invariant: the sets are right, and the spans are kept with what the column still wants as its
+-- room. The measure is what is left to do. Assumes nothing.
 use Prim.Native.Nat.{_+_}
 use native.Mathlib.Omega.{arith}
 use mathlib.Core.Path.{_≡_, refl, _∙_}
@@ -39,7 +39,7 @@ fill-at-requires : tie.Need-fill-at-requires Inv-loop μ-loop
 fill-at-requires c κs = (c .before .before .before .before .before .before .before .before .loop .inv .4 .sides, (omega (arith, c .before .before .before .before .before .before .before .before .before .before .before .before .before .before .before .pre .1, c .before .before .before .before .before .before .before .before .loop .inv .1), c .before .before .before .before .before .if1 .left, c .before .before .before .before .before .before .before .before .before .before .before .before .before .before .before .pre .1 .1))
 
 sub-want : tie.Need-sub-want Inv-loop μ-loop
-sub-want c = c .before .before .before .before .before .before .before .before .fill-at .ensures .most
+sub-want c = omega (arith, c .before .before .before .before .before .before .before .before .fill-at .ensures .most)
 
 mul-if2 : tie.Need-mul-if2 Inv-loop μ-loop
 mul-if2 c = omega (arith, c .before .before .before .before .before .before .before .before .before .before .before .before .before .before .if1, c .before .before .before .before .before .before .before .before .before .before .before .before .before .before .before .before .before .before .before .before .before .before .before .before .pre .0 .below .cells .nodes)
