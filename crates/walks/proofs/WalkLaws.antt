@@ -3,7 +3,7 @@
 use Prim.Native.Nat.{ℕ, _+_, _-_, _*_, _≤_, _<_}
 use native.Mathlib.Omega.{arith}
 use mathlib.Core.Path.{_≡_, refl, sym, _∙_, ap}
-use mathlib.Core.Bool.{true, false, false≢true}
+use mathlib.Core.Bool.{Bool, true, false, false≢true}
 use mathlib.Core.Logic.{_⊎_, ⊎-elim, inl, inr}
 use mathlib.Core.List.{List}
 use lib.ListN.{length, getD, set, length-set}
@@ -95,28 +95,28 @@ spent-roomy {n} {i} {j} {last} {x} {room} {room' = room'} {rows' = rows'} {colum
 pub walk-climb : {n : ℕ} {bound a room offers takers rows columns at to : List ℕ} {e last : ℕ} → CanWalk n bound a room offers takers rows columns at to e last → CanClimb n offers takers rows columns at to e last
 walk-climb P = record { offered = P .sides .columns; taken = P .sides .rows; lists = P .lists; apart = P .apart; column = P .column; in' = P .in' }
 
-module _ {n : ℕ} {bound a room offers takers rows columns rows' columns' at to at' to' : List ℕ} {e last : ℕ} (P : CanWalk n bound a room offers takers rows columns at to e last) where
-  pub walked-none : Climbed n offers takers rows columns rows' columns' at' to' e last false → Walked n bound a room offers takers rows columns a room offers takers rows' columns' last
-  walked-none C = record {
+module _ {n : ℕ} {bound a room offers takers rows columns rows' columns' at to at' to' : List ℕ} {e last : ℕ} {r : Bool} (P : CanWalk n bound a room offers takers rows columns at to e last) (C : Climbed n offers takers rows columns rows' columns' at' to' e last r) where
+  pub walked-none : r ≡ false → Walked n bound a room offers takers rows columns a room offers takers rows' columns' last
+  walked-none none = record {
     sides = P .sides;
     kept = kept-none n a room;
     apart = thinned-apart (C .thinned) (P .apart);
     roomy = thinned-roomy (C .thinned) (P .roomy);
     most = omega arith;
-    falls = omega (arith, C .falls refl);
-    first = λ L. absurd (false≢true (C .sure L));
+    falls = omega (arith, C .falls none);
+    first = λ L. absurd (false≢true (sym none ∙ C .sure L));
   }
 
-  module _ (C : Climbed n offers takers rows columns rows' columns' at' to' e last true) (la : length at' ≡ length at) (lt : length to' ≡ length to) where
+  module _ (yes' : r ≡ true) (la : length at' ≡ length at) (lt : length to' ≡ length to) where
     pub walk-carry : CanCarry n bound a room at' to' e last
     walk-carry =
-        let path = C .path refl in
+        let path = C .path yes' in
         record {
           below = P .sides .below;
           path = path;
-          passes = follows-passes (P .sides) path (C .follows refl);
+          passes = follows-passes (P .sides) path (C .follows yes');
           rooms = P .rooms;
-          start = P .roomy .starts (getD at' 0 0) (path .row 0 (omega arith)) (C .thinned .row 0 (getD at' 0 0) (C .start refl));
+          start = P .roomy .starts (getD at' 0 0) (path .row 0 (omega arith)) (C .thinned .row 0 (getD at' 0 0) (C .start yes'));
           ending = P .roomy .ends e (P .column) (P .in');
           ats = omega (arith, P .lists .ats, P .lists .few);
           tos = omega (arith, P .lists .tos, P .lists .few);
@@ -126,7 +126,7 @@ module _ {n : ℕ} {bound a room offers takers rows columns rows' columns' at to
       pub walk-send : CanSend n bound a offers takers at' to' e last x
       walk-send = record {
         sides = P .sides;
-        path = C .path refl;
+        path = C .path yes';
         passes = K .passes;
         some = K .some;
         ats = omega (arith, P .lists .ats, P .lists .few);
@@ -136,7 +136,7 @@ module _ {n : ℕ} {bound a room offers takers rows columns rows' columns' at to
       pub walk-spend : length rows' ≡ length rows → length columns' ≡ length columns → CanSpend n room rows' columns' (getD at' 0 0) e last x
       walk-spend lr lc = record {
         few = P .lists .layers .nodes;
-        row = C .path refl .row 0 (omega arith);
+        row = C .path yes' .row 0 (omega arith);
         column = P .column;
         rooms = P .rooms;
         start = K .start;
