@@ -1,5 +1,5 @@
--- From the start to the end: a matrix of zeros whose rooms are the limits is feasible, and stays so while spans are kept; where no column that
--- is reached has room the marks are closed. Only the cells needed matter. Assumes nothing.
+-- From the start to the end: a matrix of zeros whose rooms are the limits is feasible, and stays so while spans are kept; where it cannot grow the marks are
+-- closed. Only the cells needed matter. Assumes nothing.
 use Prim.Native.Nat.{ℕ, _+_, _-_, _*_, _≤_, _<_}
 use native.Mathlib.Omega.{arith}
 use mathlib.Core.Path.{_≡_, sym, _∙_, ap}
@@ -13,12 +13,10 @@ use Rattle.sums.proofs.Sums.{sum-all-zero}
 use Rattle.sums.proofs.Tables.{cell-lt}
 use Rattle.star.specs.Lines.{sourceOn, destinationOn, onLine, lineSum}
 use Rattle.star.proofs.LineLaws.{source-lt, destination-lt, line-ext}
-use Rattle.levels.specs.Levels.{movable, seat}
-use Rattle.star.proofs.CrossingLaws.{crossing-row, crossing-column}
-use Rattle.levels.proofs.Seats.{seat-row, seat-column, movable-row, movable-column}
+use Rattle.growth.specs.Growth.{span}
 use Rattle.flow.specs.Flows.{Feasible, Closed, marked}
 use Rattle.flow.specs.Certified.{Bounded}
-use Rattle.flow.specs.Draws.{span, Roomy, Kept, Full}
+use Rattle.flow.specs.Grows.{Empty, Grown}
 
 -- ---- the start
 module _ (n : ℕ) (a : List ℕ) (zeros : (k : ℕ) → k < n * n → getD a k 0 ≡ 0) where
@@ -30,45 +28,31 @@ module _ (n : ℕ) (a : List ℕ) (zeros : (k : ℕ) → k < n * n → getD a k 
   unfolding span lineSum onLine
   zero-span limit room same ℓ q = omega (arith, same ℓ q, sum-all-zero n (λ t. cell n a (sourceOn n ℓ t) (destinationOn n ℓ t)) (λ t h. zero-cell _ _ (source-lt n ℓ t q h) (destination-lt n ℓ t q h)))
 
-  pub roomy-start : (bound limit old room marks : List ℕ) → Bounded n bound limit old marks → length a ≡ length old → 2 * n ≤ length room → Roomy n bound a room
-  roomy-start bound limit old room marks b len rooms = record {
+  pub empty-start : (bound limit old room marks : List ℕ) → Bounded n bound limit old marks → length a ≡ length old → 2 * n ≤ length room → Empty n bound a room marks
+  empty-start bound limit old room marks b len rooms = record {
     below = record { bounds = b .bounds; cells = record { nodes = b .cells .nodes; cells = omega (arith, b .cells .cells) }; below = λ i j p q. omega (arith, zero-cell i j p q) };
-    demands = b .demands;
+    zeros = zero-cell;
     rooms = rooms;
+    lines = b .lines;
   }
 
 -- ---- the end
-pub spans-feasible : (n : ℕ) (bound limit a room a′ room′ : List ℕ) → Kept n bound a room a′ room′ → ((ℓ : ℕ) → ℓ < 2 * n → span n a room ℓ ≡ getD limit ℓ 0) → Feasible n bound limit a′
-unfolding span
-spans-feasible n bound limit a room a′ room′ k start = record { below = k .below; lines = λ ℓ q. omega (arith, k .spans ℓ q, start ℓ q) }
-
-module _ (n : ℕ) (bound limit a room a′ room′ marks : List ℕ) (f : Full n bound a room a′ room′ marks) (start : (ℓ : ℕ) → ℓ < 2 * n → span n a room ℓ ≡ getD limit ℓ 0) where
-  -- a line without room is at its limit
-  at-limit : (ℓ : ℕ) → ℓ < 2 * n → getD room′ ℓ 0 ≡ 0 → lineSum n a′ ℓ ≡ getD limit ℓ 0
+module _ {n : ℕ} {bound a room a′ room′ marks : List ℕ} (limit : List ℕ) (f : Grown n bound a room a′ room′ marks) (zeros : (k : ℕ) → k < n * n → getD a k 0 ≡ 0) (same : (k : ℕ) → k < 2 * n → getD room k 0 ≡ getD limit k 0) where
+  -- a line's sum and room are its limit
+  whole : (ℓ : ℕ) → ℓ < 2 * n → lineSum n a′ ℓ + getD room′ ℓ 0 ≡ getD limit ℓ 0
   unfolding span
-  at-limit ℓ q e = omega (arith, f .kept .spans ℓ q, start ℓ q)
+  whole ℓ q = omega (arith, f .kept .spans ℓ q, zero-span n a zeros limit room same ℓ q)
 
-  pub full-closed : Closed n bound limit a′ marks
-  full-closed = record {
-    rows = λ i p m. at-limit i (omega arith) (f .searched .starts i p (omega (arith, ltb-false 0 (getD marks i 0) m)));
-    columns = λ j q m. at-limit (n + j) (omega arith) (f .full j q (ltb-true 0 (getD marks (n + j) 0) m));
-    full = λ i j p q m u.
-        let x = crossing-row n i j p in
-        let z : movable n bound a′ (n + j) i ≡ 0 = rw (x, seat-row n i p) at (f .searched .closed i j (omega arith) q (ltb-true 0 (getD marks i 0) m) (rw x (omega (arith, ltb-false 0 (getD marks (n + j) 0) u)))) in
-        let e : (n + j) - n ≡ j = omega arith in
-        omega (arith, f .kept .below i j p q, rw e at (sym (movable-column n (n + j) (omega arith) bound a′ i) ∙ z));
-    empty = λ i j p q m u.
-        let x = crossing-column n (n + j) i (omega arith) in
-        let s : seat n (n + j) ≡ j = seat-column n (n + j) (omega arith) ∙ omega arith in
-        let z : movable n bound a′ i j ≡ 0 = rw (x, s) at (f .searched .closed (n + j) i (omega arith) p (ltb-true 0 (getD marks (n + j) 0) u) (rw x (omega (arith, ltb-false 0 (getD marks i 0) m)))) in
-        sym (movable-row n i p bound a′ j) ∙ z;
-  }
-
--- from zeros and limits to the end
-pub finished : {n : ℕ} {bound a room a₁ room₁ a₂ room₂ marks : List ℕ} (limit : List ℕ) → Kept n bound a room a₁ room₁ → Full n bound a₁ room₁ a₂ room₂ marks → ((k : ℕ) → k < n * n → getD a k 0 ≡ 0) → ((k : ℕ) → k < 2 * n → getD room k 0 ≡ getD limit k 0) → Feasible n bound limit a₂ × Closed n bound limit a₂ marks
-finished {n} {bound} {a} {room} {a₁} {room₁} {a₂} {room₂} {marks} limit k f zeros same =
-    let start : (ℓ : ℕ) → ℓ < 2 * n → span n a₁ room₁ ℓ ≡ getD limit ℓ 0 = λ ℓ q. k .spans ℓ q ∙ zero-span n a zeros limit room same ℓ q in
-    (spans-feasible n bound limit a₁ room₁ a₂ room₂ (f .kept) start, full-closed n bound limit a₁ room₁ a₂ room₂ marks f start)
+  pub finished : Feasible n bound limit a′ × Closed n bound limit a′ marks
+  finished = (
+    record { below = f .below; lines = λ ℓ q. omega (arith, whole ℓ q) },
+    record {
+      rows = λ i p m. omega (arith, whole i (omega arith), f .rows i p (omega (arith, ltb-false 0 (getD marks i 0) m)));
+      columns = λ j q m. omega (arith, whole (n + j) (omega arith), f .columns j q (ltb-true 0 (getD marks (n + j) 0) m));
+      full = λ i j p q m u. f .full i j p q (ltb-true 0 (getD marks i 0) m) (omega (arith, ltb-false 0 (getD marks (n + j) 0) u));
+      empty = λ i j p q m u. f .empty i j p q (omega (arith, ltb-false 0 (getD marks i 0) m)) (ltb-true 0 (getD marks (n + j) 0) u);
+    },
+  )
 
 -- ---- longer tables
 module _ (n : ℕ) (bound limit a t : List ℕ) (fits : length a ≡ n * n) where

@@ -1,12 +1,9 @@
--- `flow::largest_on` meets its contract: from zeros and limits through the fill and the growth spans are kept, and what is left is closed.
--- Assumes nothing.
-use Prim.Native.Nat.{_*_}
-use native.Mathlib.Omega.{arith}
-use mathlib.Core.Path.{_∙_}
-use borrow.Author.Needs.{needs}
+-- `flow::largest_on` meets its contract: from zeros and limits to the end. Assumes nothing.
+use Rattle.flow.proofs.Ends.{empty-start, finished}
 use Rattle.sums.proofs.Fills.{cleared-at, copied-at}
-use Rattle.flow.proofs.Ends.{roomy-start, finished}
-use Rattle.flow.proofs.Takes.{roomy-kept}
+use native.Mathlib.Omega.{arith}
+use Prim.Native.Nat.{_*_}
+use borrow.Author.Needs.{needs}
 use Rattle.flow.proofs.largest_on.Statement.{statement}
 use Rattle.flow.proofs.largest_on.Tie as tie
 
@@ -19,47 +16,20 @@ mul-copy c = search needs
 copy-requires : tie.Need-copy-requires
 copy-requires c κs = search needs
 
-fill-requires : tie.Need-fill-requires
-fill-requires c κs =
-    let clear-said = c .before .before .before .before .before .before .before .before .clear in
-    let args = c .before .before .before .before .before .before .before .before .before .before .before .before .before .before .before .args in
-    let asked = c .before .before .before .before .before .before .before .before .before .before .before .before .before .before .before .pre in
-    roomy-start _ (clear-said .last .1 .0) (cleared-at (args .n * args .n) (clear-said .last .1 .0) (args .a .now) (clear-said .ensures)) _ (args .limit .now) (args .a .now) _ (args .marks .now) (asked .0) (clear-said .kept .1 .0) (omega (arith, c .before .before .before .before .copy .kept .1 .0, asked .1))
-
-grow-requires : tie.Need-grow-requires
-grow-requires c κs =
-    let args = c .before .before .before .before .before .before .before .before .before .before .before .before .before .before .before .before .before .before .before .before .before .before .before .args in
-    let clear-said = c .before .before .before .before .before .before .before .before .before .before .before .before .before .before .before .before .clear in
-    let copy-said = c .before .before .before .before .before .before .before .before .before .before .before .before .copy in
-    let asked = c .before .before .before .before .before .before .before .before .before .before .before .before .before .before .before .before .before .before .before .before .before .before .before .pre in
-    let fill-said = c .before .before .before .before .before .before .before .fill in
-    (roomy-kept (roomy-start (args .n) (clear-said .last .1 .0) (cleared-at (args .n * args .n) (clear-said .last .1 .0) (args .a .now) (clear-said .ensures)) (args .bound .now) (args .limit .now) (args .a .now) (copy-said .last .1 .0) (args .marks .now) (asked .0) (clear-said .kept .1 .0) (omega (arith, copy-said .kept .1 .0, asked .1))) (fill-said .ensures) (fill-said .kept .1 .1 .0) (fill-said .kept .1 .1 .1 .0), asked .0 .lines)
+largest-within-requires : tie.Need-largest-within-requires
+largest-within-requires c κs = empty-start (c .before .before .before .before .before .before .before .before .before .before .before .before .before .before .before .before .args .n) (c .before .before .before .before .before .before .before .before .before .clear .last .1 .0) (cleared-at (c .before .before .before .before .before .before .before .before .before .before .before .before .before .before .before .before .args .n * c .before .before .before .before .before .before .before .before .before .before .before .before .before .before .before .before .args .n) (c .before .before .before .before .before .before .before .before .before .clear .last .1 .0) (c .before .before .before .before .before .before .before .before .before .before .before .before .before .before .before .before .args .a .now) (c .before .before .before .before .before .before .before .before .before .clear .ensures)) (c .before .before .before .before .before .before .before .before .before .before .before .before .before .before .before .before .args .bound .now) (c .before .before .before .before .before .before .before .before .before .before .before .before .before .before .before .before .args .limit .now) (c .before .before .before .before .before .before .before .before .before .before .before .before .before .before .before .before .args .a .now) (c .before .before .before .before .before .copy .last .1 .0) (c .before .before .before .before .before .before .before .before .before .before .before .before .before .before .before .before .args .marks .now) (c .before .before .before .before .before .before .before .before .before .before .before .before .before .before .before .before .pre .0) (c .before .before .before .before .before .before .before .before .before .clear .kept .1 .0) (omega (arith, c .before .before .before .before .before .copy .kept .1 .0, c .before .before .before .before .before .before .before .before .before .before .before .before .before .before .before .before .pre .1))
 
 same-length : tie.Need-same-length
-same-length c =
-    let grow-said = c .before .before .before .before .before .before .grow in
-    let fill-said = c .before .before .before .before .before .before .before .before .before .before .before .before .before .before .fill in
-    let clear-said = c .before .before .before .before .before .before .before .before .before .before .before .before .before .before .before .before .before .before .before .before .before .before .before .clear in
-    grow-said .kept .1 .1 .0 ∙ fill-said .kept .1 .1 .0 ∙ clear-said .kept .1 .0
+same-length c = search needs
 
 same-length-2 : tie.Need-same-length-2
-same-length-2 c =
-    let grow-said = c .before .before .before .before .before .before .grow in
-    let fill-said = c .before .before .before .before .before .before .before .before .before .before .before .before .before .before .fill in
-    let copy-said = c .before .before .before .before .before .before .before .before .before .before .before .before .before .before .before .before .before .before .before .copy in
-    grow-said .kept .1 .1 .1 .0 ∙ fill-said .kept .1 .1 .1 .0 ∙ copy-said .kept .1 .0
+same-length-2 c = search needs
 
 same-length-3 : tie.Need-same-length-3
-same-length-3 c = c .before .before .before .before .before .before .grow .kept .1 .1 .1 .1 .0
+same-length-3 c = search needs
 
 returns : tie.Need-returns
-returns c =
-    let args = c .before .before .before .before .before .before .before .before .before .before .before .before .before .before .before .before .before .before .before .before .before .before .before .before .before .before .before .before .before .before .args in
-    let fill-said = c .before .before .before .before .before .before .before .before .before .before .before .before .before .before .fill in
-    let grow-said = c .before .before .before .before .before .before .grow in
-    let clear-said = c .before .before .before .before .before .before .before .before .before .before .before .before .before .before .before .before .before .before .before .before .before .before .before .clear in
-    let copy-said = c .before .before .before .before .before .before .before .before .before .before .before .before .before .before .before .before .before .before .before .copy in
-    finished (args .limit .now) (fill-said .ensures) (grow-said .ensures) (cleared-at (args .n * args .n) (clear-said .last .1 .0) (args .a .now) (clear-said .ensures)) (copied-at (2 * args .n) (args .limit .now) (copy-said .last .1 .0) (args .room .now) (copy-said .ensures))
+returns c = finished (c .before .before .before .before .before .before .before .before .before .before .before .before .before .before .before .before .before .before .before .before .before .before .before .args .limit .now) (c .before .before .before .before .before .before .largest-within .ensures) (cleared-at (c .before .before .before .before .before .before .before .before .before .before .before .before .before .before .before .before .before .before .before .before .before .before .before .args .n * c .before .before .before .before .before .before .before .before .before .before .before .before .before .before .before .before .before .before .before .before .before .before .before .args .n) (c .before .before .before .before .before .before .before .before .before .before .before .before .before .before .before .before .clear .last .1 .0) (c .before .before .before .before .before .before .before .before .before .before .before .before .before .before .before .before .before .before .before .before .before .before .before .args .a .now) (c .before .before .before .before .before .before .before .before .before .before .before .before .before .before .before .before .clear .ensures)) (copied-at (2 * c .before .before .before .before .before .before .before .before .before .before .before .before .before .before .before .before .before .before .before .before .before .before .before .args .n) (c .before .before .before .before .before .before .before .before .before .before .before .before .before .before .before .before .before .before .before .before .before .before .before .args .limit .now) (c .before .before .before .before .before .before .before .before .before .before .before .before .copy .last .1 .0) (c .before .before .before .before .before .before .before .before .before .before .before .before .before .before .before .before .before .before .before .before .before .before .before .args .room .now) (c .before .before .before .before .before .before .before .before .before .before .before .before .copy .ensures))
 
 pub largest-on-spec : {M : Type 1} → statement M
 largest-on-spec =
@@ -68,8 +38,7 @@ largest-on-spec =
     clear-requires
     mul-copy
     copy-requires
-    fill-requires
-    grow-requires
+    largest-within-requires
     same-length
     same-length-2
     same-length-3
