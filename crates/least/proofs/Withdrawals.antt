@@ -9,13 +9,12 @@ use lib.IntN.{subℕ}
 use lib.ListN.{length, getD, take, set}
 use borrow.Author.Tests.{ltb-false}
 use Rattle.sums.specs.Tables.{cell, tab}
-use Rattle.sums.proofs.Sums.{sum-most}
 use Rattle.sums.proofs.Tables.{length-tab, tab-at, written-first}
 use Rattle.sums.proofs.Fills.{Filled, filled-next, filled-more, filled-all}
 use Rattle.star.specs.Tables.{Demands}
-use Rattle.star.specs.Lines.{onLine, lineSum, overflows, slack, excess, excessOf, critical}
+use Rattle.star.specs.Lines.{lineSum, overflows, slack, excess, excessOf, critical}
 use Rattle.star.specs.LineSums.{Summed}
-use Rattle.star.proofs.LineLaws.{on-line-most, excess-is, overflows-is, cell-in-row, cell-in-column}
+use Rattle.star.proofs.LineLaws.{line-most, excess-is, overflows-is, cell-in-row, cell-in-column}
 use Rattle.flow.specs.Flows.{Feasible, Largest}
 use Rattle.flow.proofs.Duality.{closed-is-largest}
 use Rattle.flow.specs.Certified.{Certified}
@@ -57,11 +56,6 @@ module _ (n : ℕ) (cap d : List ℕ) where
     largest-is-greatest g = record { withdrawn = feasible-is-withdrawn (g .feasible); most = λ b w. g .most b (withdrawn-is-feasible w) }
 
 -- ---- the excess of each line in place of its sum, one line after the other
--- a line of demands is at most 64 × 65,535
-pub line-most : (n : ℕ) (d : List ℕ) (ℓ : ℕ) → n ≤ 64 → Demands n d → ℓ < 2 * n → lineSum n d ℓ ≤ 4194240
-unfolding lineSum
-line-most n d ℓ few h hl = omega (arith, sum-most n 65535 (onLine n d ℓ) (λ t ht. on-line-most n d ℓ t h hl ht))
-
 module _ (n : ℕ) (cap d : List ℕ) {m : ℕ} {sums t : List ℕ} (f : Filled m (excess n cap d) sums t) where
   -- the line that comes next still has its sum
   sum-next : Summed n d sums → 2 * n ≤ length sums → m < 2 * n → getD t m 0 ≡ lineSum n d m

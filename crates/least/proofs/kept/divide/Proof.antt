@@ -11,8 +11,8 @@ use Rattle.sums.proofs.Sums.{sum-none, sum-more, sum-done}
 use Rattle.sums.proofs.Tables.{tab-more}
 use Rattle.sums.specs.Sums.{sumTo}
 use Rattle.sums.specs.Tables.{tab}
+use Rattle.star.proofs.LineLaws.{line-most}
 use Rattle.least.proofs.Shares.{share-is, remainder-is, part-most, share-most, shares-most, shares-and-missing, remainder-fits}
-use Rattle.least.proofs.Withdrawals.{line-most}
 use Rattle.least.specs.Least.{share, remainder}
 use Rattle.least.specs.Promises.{claim}
 use Rattle.least.proofs.kept.divide.Statement.{statement}
