@@ -153,12 +153,14 @@ module _ {n : ℕ} {cap d a k x : List ℕ} (c : CanKeep n cap d a k) (e : x ≡
 -- the first n * n cells of a longer table
 pub can-keep-exactly : {n : ℕ} {cap d a k : List ℕ} → CanKeep n cap d a k → (CanKeep n cap d a (take (n * n) k)) × (length (take (n * n) k) ≡ n * n)
 can-keep-exactly {n} {cap} {d} {a} {k} c =
-    let exact = length-take-le (n * n) k (c .kept .cells) in
-    (record {
-      demand = c .demand;
-      demands = c .demands;
-      capacities = c .capacities;
-      withdrawn = c .withdrawn;
-      kept = record { nodes = c .kept .nodes; cells = omega (arith, exact) };
-      greatest = c .greatest;
-    }, exact)
+    let exact = length-take-le (n * n) k (c .kept .cells) in (
+      record {
+        demand = c .demand;
+        demands = c .demands;
+        capacities = c .capacities;
+        withdrawn = c .withdrawn;
+        kept = record { nodes = c .kept .nodes; cells = omega (arith, exact) };
+        greatest = c .greatest;
+      },
+      exact,
+    )

@@ -41,13 +41,15 @@ shared-slice-read-share-line c = omega (arith, c .before .before .before .before
 
 share-line-requires : tie.Need-share-line-requires Inv-loop μ-loop
 share-line-requires c κs = let pre = c .before .before .before .before .before .before .before .before .before .before .pre in
-    let loop = c .before .before .before .before .before .before .loop in
-    (record {
-      square = record { nodes = pre .nodes; cells = omega (arith, pre .exact, loop .inv .2) };
-      demands = demands-below _ _ _ (pre .demands) (cutting-below (loop .inv .3));
-      capacities = pre .capacities;
-      line = omega arith;
-    }, (still (loop .inv .3) _ (pre .summed) (pre .apart) (omega arith) (c .before .before .if1 .taken), c .before .before .if1 .taken))
+    let loop = c .before .before .before .before .before .before .loop in (
+      record {
+        square = record { nodes = pre .nodes; cells = omega (arith, pre .exact, loop .inv .2) };
+        demands = demands-below _ _ _ (pre .demands) (cutting-below (loop .inv .3));
+        capacities = pre .capacities;
+        line = omega arith;
+      },
+      (still (loop .inv .3) _ (pre .summed) (pre .apart) (omega arith) (c .before .before .if1 .taken), c .before .before .if1 .taken),
+    )
 
 add-line : tie.Need-add-line Inv-loop μ-loop
 add-line c = omega (arith, c .before .before .before .before .before .before .before .before .pre .nodes)
