@@ -6,23 +6,15 @@ use mathlib.Core.Path.{_≡_, sym, ap, ap₂, _∙_}
 use mathlib.Core.List.{List}
 use lib.ListN.{length, getD, replicate, getD-replicate, length-replicate}
 use Rattle.sums.specs.Tables.{cell, tab, square, written}
-use Rattle.sums.proofs.Sums.{sum-most}
 use Rattle.sums.proofs.Tables.{length-square, square-cell, square-same, tab-square}
 use Rattle.sums.proofs.Fills.{tab-whole}
-use Rattle.star.specs.Tables.{Demands}
-use Rattle.star.specs.Lines.{onLine, lineSum}
+use Rattle.star.specs.Lines.{lineSum}
 use Rattle.star.specs.LineSums.{Summed}
-use Rattle.star.proofs.LineLaws.{on-line-most, demands-below}
+use Rattle.star.proofs.LineLaws.{line-most, demands-below}
 use Rattle.fair.specs.Fair.{taken, cutLine, step, steps, uncut, fairKept}
 use Rattle.fair.specs.Cuts.{cutting, Counted, Sound, Comparable, Next, CanCutLine, LineCut, CanCutAll, CanCutExactly}
 use Rattle.fair.proofs.LineCuts.{line-split}
 use Rattle.fair.proofs.Steps.{steps-sound, steps-below, steps-shrink, steps-still, step-cuts, taken-is-least, uncut-a, uncut-b}
-
--- ---- tables of demands
--- a line of demands is at most 64 × 65,535
-pub line-most : (n : ℕ) (d : List ℕ) (ℓ : ℕ) → n ≤ 64 → Demands n d → ℓ < 2 * n → lineSum n d ℓ ≤ 4194240
-unfolding lineSum
-line-most n d ℓ few h hl = omega (arith, sum-most n 65535 (onLine n d ℓ) (λ t ht. on-line-most n d ℓ t h hl ht))
 
 -- ---- the steps
 pub record Stepped (n : ℕ) (cap d kept done a b : List ℕ) (k : ℕ) : Type 0 where

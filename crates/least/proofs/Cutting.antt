@@ -1,23 +1,26 @@
 -- Cutting the lines of E one after the other, in place: where two lines too long meet only in a zero cell, a line that is to be cut still has
--- E's cells when its turn comes, and a line that is not too long in E never becomes so; after the last line every cell has what is kept.
+-- E's cells, and so E's sum, when its turn comes; after the last line every cell has what is kept.
 -- Assumes nothing.
 use Prim.Native.Nat.{ℕ, _+_, _-_, _*_, _≤_, _<_}
 use native.Mathlib.Omega.{arith}
 use mathlib.Core.Path.{_≡_, refl, sym, _∙_, ap}
 use mathlib.Core.Bool.{true, false, false≢true}
-use mathlib.Core.List.{List, _++_}
-use lib.ListN.{length, getD, take, drop}
-use lib.Seq.{take-at, drop-at}
-use borrow.Author.Tests.{le-ltb}
-use Rattle.sums.specs.Tables.{cell, square, written}
+use mathlib.Core.List.{List}
+use lib.ListN.{length, getD, take}
+use lib.Seq.{length-take-le}
+use borrow.Author.Tests.{lt-ltb, le-ltb}
+use Rattle.sums.specs.Tables.{cell, square}
 use Rattle.sums.proofs.Cases.{by-eq, by-lt, by-test}
 use Rattle.sums.proofs.Tables.{length-square, square-cell, square-ext}
+use Rattle.star.specs.Tables.{Square, Demands}
 use Rattle.star.specs.Lines.{onLine, lineSum}
-use Rattle.star.proofs.LineLaws.{on-row, on-column, demands-below, in-column, line-mono}
+use Rattle.star.specs.LineSums.{Summed}
+use Rattle.star.proofs.LineLaws.{on-row, on-column, demands-below, in-column}
 use Rattle.least.specs.Least.{longer, shared, left, keptCell, keptFrom}
-use Rattle.least.specs.Promises.{MeetInZero, Rewritten, LineShared, CanShare, CanKeep}
-use Rattle.least.proofs.Remains.{length-left, left-below, shorter-is, two-longer-lines-meet-in-zero}
-use Rattle.least.proofs.Shares.{longer-same, shared-same}
+use Rattle.least.specs.Promises.{MeetInZero, Rewritten, CanShare, CanKeep}
+use Rattle.least.proofs.Remains.{length-left, left-below, two-longer-lines-meet-in-zero}
+use Rattle.least.proofs.Rewritings.{rewritten-same}
+use Rattle.least.proofs.Shares.{sum-same, shared-same}
 use Rattle.least.proofs.Keeping.{row-shared-below, column-shared-below, kept-row, kept-column, kept-other}
 
 -- what a table has when the lines below m have had their turn
@@ -58,10 +61,14 @@ module _ {n : ℕ} {cap e : List ℕ} where
         (λ lt. c .others t (m - n) p q (λ _. lt) (λ h. absurd (omega arith)))
         ∙ sym (on-column n e m t column))
 
-    -- a line not too long in E is not too long now
-    short : m < 2 * n → longer n cap e m ≡ false → longer n cap k m ≡ false
+    -- a line is too long in E where its sum says so ..
+    too-long : (sums : List ℕ) → Summed n e sums → m < 2 * n → getD cap m 0 < getD sums m 0 → longer n cap e m ≡ true
     unfolding longer
-    short hm l = le-ltb (getD cap m 0) (lineSum n k m) (omega (arith, shorter-is n cap e m l, line-mono n k e cutting-below m hm))
+    too-long sums s hm l = lt-ltb (getD cap m 0) (lineSum n e m) (omega (arith, s .lines m hm))
+
+    -- .. and then its sum is still E's
+    pub still : (sums : List ℕ) → Summed n e sums → MeetInZero n cap e → m < 2 * n → getD cap m 0 < getD sums m 0 → getD sums m 0 ≡ lineSum n k m
+    still sums s apart hm l = s .lines m hm ∙ sym (sum-same n cap k e m (untouched apart hm (too-long sums s hm l)))
 
     -- the m-th line has its turn, and is too long
     cutting-cut : MeetInZero n cap e → (k' : List ℕ) → longer n cap e m ≡ true → Rewritten n m (shared n cap e m) k k' → Cutting n cap e (m + 1) k'
@@ -100,13 +107,15 @@ module _ {n : ℕ} {cap e : List ℕ} where
         below : (i : ℕ) → i < m + 1 → (i ≡ m → ⊥) → i < m
         below i h ne = omega arith
 
-    pub cutting-more : MeetInZero n cap e → m < 2 * n → (k' : List ℕ) → LineShared n cap m k k' → Cutting n cap e (m + 1) k'
-    cutting-more apart hm k' s =
-        by-test (longer n cap e m)
-        (λ l.
-        let r = s .cut (longer-same n cap k e m (untouched apart hm l) ∙ l) in
-        cutting-cut apart k' l (record { on = λ t p. r .on t p ∙ shared-same n cap k e m (untouched apart hm l) t p; off = r .off }))
-        (λ l. rw (s .uncut (short hm l)) (cutting-uncut l))
+    -- the m-th line has its turn: it is cut where its sum in E exceeds its capacity
+    pub cutting-more : (sums : List ℕ) → Summed n e sums → MeetInZero n cap e → m < 2 * n → getD cap m 0 < getD sums m 0 → (k' : List ℕ) → Rewritten n m (shared n cap k m) k k' → Cutting n cap e (m + 1) k'
+    cutting-more sums s apart hm l k' r =
+        cutting-cut apart k' (too-long sums s hm l)
+        (rewritten-same _ _ _ _ _ _ (λ t p. shared-same n cap k e m (untouched apart hm (too-long sums s hm l)) t p) r)
+
+    pub cutting-past : (sums : List ℕ) → Summed n e sums → m < 2 * n → getD sums m 0 ≤ getD cap m 0 → Cutting n cap e (m + 1) k
+    unfolding longer
+    cutting-past sums s hm l = cutting-uncut (le-ltb (getD cap m 0) (lineSum n e m) (omega (arith, s .lines m hm)))
 
   -- every line has had its turn
   pub cutting-all : (m : ℕ) (k : List ℕ) → m ≡ 2 * n → MeetInZero n cap e → length k ≡ n * n → Cutting n cap e m k → k ≡ square n (keptCell n cap e)
@@ -118,23 +127,40 @@ module _ {n : ℕ} {cap e : List ℕ} where
       (λ h. c .others i j p q (λ _. l) (λ _. h) ∙ sym (kept-other n cap e i j l h)))
       ∙ sym (square-cell n (keptCell n cap e) i j p q))
 
--- ---- E in the first cells of a longer table
-module _ {n : ℕ} {cap d a k : List ℕ} (c : CanKeep n cap d a k) (x : List ℕ) (e : x ≡ left n d a) where
-  front : take (n * n) (x ++ drop (n * n) k) ≡ left n d a
-  front = take-at x (drop (n * n) k) (n * n) (ap length e ∙ length-left n d a) ∙ e
+-- ---- E in a table of its own, and the sums of its lines
+module _ {n : ℕ} {cap d a k x : List ℕ} (c : CanKeep n cap d a k) (e : x ≡ left n d a) where
+  pub left-square : Square n x
+  left-square = rw e (record { nodes = c .demand .nodes; cells = omega (arith, length-left n d a) })
 
-  pub front-fits : n * n ≡ length (take (n * n) (x ++ drop (n * n) k))
-  front-fits = sym (ap length front ∙ length-left n d a)
+  pub left-demands : Demands n x
+  left-demands = rw e (demands-below n d (left n d a) (c .demands) (left-below n d a))
 
-  pub front-can-share : CanShare n cap (take (n * n) (x ++ drop (n * n) k))
-  front-can-share = rw front (record {
+  pub can-share : (sums : List ℕ) → 2 * n ≤ length sums → Summed n x sums → CanShare n cap sums x
+  can-share sums room s = record {
     nodes = c .demand .nodes;
-    exact = length-left n d a;
-    demands = demands-below n d (left n d a) (c .demands) (left-below n d a);
+    exact = ap length e ∙ length-left n d a;
+    demands = left-demands;
     capacities = c .capacities;
-    apart = two-longer-lines-meet-in-zero (c .greatest);
-  })
+    apart = rw e (two-longer-lines-meet-in-zero (c .greatest));
+    room = room;
+    summed = s;
+  }
 
-  pub kept-written : (y : List ℕ) → y ≡ square n (keptCell n cap (take (n * n) (x ++ drop (n * n) k))) → y ++ drop (n * n) (x ++ drop (n * n) k) ≡ written (n * n) (keptFrom n cap d a) k
-  unfolding written keptFrom
-  kept-written y f = rw (f, front, drop-at x (drop (n * n) k) (n * n) (ap length e ∙ length-left n d a)) refl
+  pub kept-all : (y : List ℕ) → y ≡ square n (keptCell n cap x) → y ≡ keptFrom n cap d a
+  unfolding keptFrom
+  kept-all y f = f ∙ ap (λ z. square n (keptCell n cap z)) e
+
+-- the first n * n cells of a longer table
+pub can-keep-exactly : {n : ℕ} {cap d a k : List ℕ} → CanKeep n cap d a k → (CanKeep n cap d a (take (n * n) k)) × (length (take (n * n) k) ≡ n * n)
+can-keep-exactly {n} {cap} {d} {a} {k} c =
+    let exact = length-take-le (n * n) k (c .kept .cells) in (
+      record {
+        demand = c .demand;
+        demands = c .demands;
+        capacities = c .capacities;
+        withdrawn = c .withdrawn;
+        kept = record { nodes = c .kept .nodes; cells = omega (arith, exact) };
+        greatest = c .greatest;
+      },
+      exact,
+    )

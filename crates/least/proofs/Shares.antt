@@ -16,7 +16,7 @@ use Rattle.sums.proofs.Gates.{bit-most}
 use Rattle.sums.proofs.Cases.{by-eq, by-lt, by-test}
 use Rattle.star.specs.Lines.{onLine, lineSum}
 use Rattle.star.proofs.LineLaws.{on-line-most}
-use Rattle.least.specs.Least.{longer, share, remainder, missing, before, rank, shared}
+use Rattle.least.specs.Least.{share, remainder, missing, before, rank, shared}
 use Rattle.least.specs.Promises.{Line, claim, larger, Divided}
 use Rattle.least.proofs.Ranks.{larger-before, smaller-after, lower-before, higher-after, ranks-below, rank-same}
 
@@ -116,13 +116,9 @@ module _ (n : ℕ) (cap e : List ℕ) (ℓ : ℕ) (long : getD cap ℓ 0 < lineS
 
 -- ---- tables that agree on a line
 module _ (n : ℕ) (cap e k : List ℕ) (ℓ : ℕ) (same : (t : ℕ) → t < n → onLine n e ℓ t ≡ onLine n k ℓ t) where
-  sum-same : lineSum n e ℓ ≡ lineSum n k ℓ
+  pub sum-same : lineSum n e ℓ ≡ lineSum n k ℓ
   unfolding lineSum
   sum-same = sum-ext n _ _ same
-
-  pub longer-same : longer n cap e ℓ ≡ longer n cap k ℓ
-  unfolding longer
-  longer-same = rw sum-same refl
 
   share-same : (t : ℕ) → t < n → share n cap e ℓ t ≡ share n cap k ℓ t
   unfolding share

@@ -5,12 +5,16 @@ use native.Mathlib.Omega.{arith}
 use mathlib.Core.Path.{_≡_, refl, sym, _∙_, ap}
 use mathlib.Core.Bool.{Bool, true, false, _&&_}
 use mathlib.Core.List.{List}
-use lib.ListN.{length, getD, take}
+use lib.IntN.{subℕ}
+use lib.ListN.{length, getD, take, set}
 use borrow.Author.Tests.{ltb-false}
-use Rattle.sums.specs.Tables.{cell, tab, written}
+use Rattle.sums.specs.Tables.{cell, tab}
 use Rattle.sums.proofs.Tables.{length-tab, tab-at, written-first}
-use Rattle.star.specs.Lines.{lineSum, overflows, excess, critical}
-use Rattle.star.proofs.LineLaws.{excess-is, overflows-is, cell-in-row, cell-in-column}
+use Rattle.sums.proofs.Fills.{Filled, filled-next, filled-more, filled-all}
+use Rattle.star.specs.Tables.{Demands}
+use Rattle.star.specs.Lines.{lineSum, overflows, slack, excess, excessOf, critical}
+use Rattle.star.specs.LineSums.{Summed}
+use Rattle.star.proofs.LineLaws.{line-most, excess-is, overflows-is, cell-in-row, cell-in-column}
 use Rattle.flow.specs.Flows.{Feasible, Largest}
 use Rattle.flow.proofs.Duality.{closed-is-largest}
 use Rattle.flow.specs.Certified.{Certified}
@@ -51,19 +55,32 @@ module _ (n : ℕ) (cap d : List ℕ) where
     pub largest-is-greatest : Largest n d (tab (2 * n) (excess n cap d)) a → Greatest n cap d a
     largest-is-greatest g = record { withdrawn = feasible-is-withdrawn (g .feasible); most = λ b w. g .most b (withdrawn-is-feasible w) }
 
--- ---- the limits as a table begins with them
-module _ (n : ℕ) (cap d limits o : List ℕ) (e : limits ≡ written (2 * n) (tab (2 * n) (excess n cap d)) o) where
-  limits-first : take (2 * n) limits ≡ tab (2 * n) (excess n cap d)
-  limits-first = ap (take (2 * n)) e ∙ written-first (2 * n) (tab (2 * n) (excess n cap d)) o (length-tab (excess n cap d) (2 * n))
+-- ---- the excess of each line in place of its sum, one line after the other
+module _ (n : ℕ) (cap d : List ℕ) {m : ℕ} {sums t : List ℕ} (f : Filled m (excess n cap d) sums t) where
+  -- the line that comes next still has its sum
+  sum-next : Summed n d sums → 2 * n ≤ length sums → m < 2 * n → getD t m 0 ≡ lineSum n d m
+  sum-next s room h = filled-next f (omega arith) ∙ s .lines m h
 
+  pub next-most : n ≤ 64 → Demands n d → Summed n d sums → 2 * n ≤ length sums → m < 2 * n → getD t m 0 ≤ 4194240
+  next-most few most s room h = omega (arith, sum-next s room h, line-most n d m few most h)
+
+  pub excess-next : (x : ℕ) → Summed n d sums → 2 * n ≤ length sums → m < 2 * n → x ≡ excessOf (subℕ (getD cap m 0) (getD t m 0)) → Filled (m + 1) (excess n cap d) sums (set t m x)
+  unfolding excess slack
+  excess-next x s room h e = filled-more x f (omega arith) (e ∙ ap (λ y. excessOf (subℕ (getD cap m 0) y)) (sum-next s room h))
+
+  pub excess-all : m ≡ 2 * n → take (2 * n) t ≡ tab (2 * n) (excess n cap d)
+  excess-all e = ap (take (2 * n)) (filled-all (2 * n) f e) ∙ written-first (2 * n) (tab (2 * n) (excess n cap d)) sums (length-tab (excess n cap d) (2 * n))
+
+-- ---- the limits as a table begins with them
+module _ (n : ℕ) (cap d limits : List ℕ) (e : take (2 * n) limits ≡ tab (2 * n) (excess n cap d)) where
   pub limits-fit : 2 * n ≡ length (take (2 * n) limits)
-  limits-fit = sym (ap length limits-first ∙ length-tab (excess n cap d) (2 * n))
+  limits-fit = sym (ap length e ∙ length-tab (excess n cap d) (2 * n))
 
   -- the largest matrix below D and the excesses
   pub certified-is-withdrawn : {a marks a' marks' : List ℕ} → Certified n d (take (2 * n) limits) a marks a' marks' → Withdrew n cap d a marks a' marks'
   certified-is-withdrawn {a' = a'} {marks' = marks'} c =
-      let feasible = rw limits-first at (c .feasible) in
-      let closed = rw limits-first at (c .closed) in
+      let feasible = rw e at (c .feasible) in
+      let closed = rw e at (c .closed) in
       record {
         greatest = largest-is-greatest n cap d (closed-is-largest n d (tab (2 * n) (excess n cap d)) a' marks' feasible closed);
         closed = closed;

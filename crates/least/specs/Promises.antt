@@ -1,7 +1,7 @@
 -- What the functions of the least rule ask of their callers, and what they promise. `n` is N; a primed table is what the function leaves.
 use Prim.Native.Nat.{ℕ, _+_, _-_, _*_, _≤_, _<_}
 use mathlib.Core.Path.{_≡_}
-use mathlib.Core.Bool.{true, false}
+use mathlib.Core.Bool.{true}
 use mathlib.Core.List.{List}
 use lib.ListN.{length, getD, drop}
 use lib.Dec.{ltb}
@@ -9,8 +9,9 @@ use Rattle.sums.specs.Sums.{sumTo, bit}
 use Rattle.sums.specs.Tables.{cell, tab}
 use Rattle.star.specs.Tables.{Square, Demands, Capacities}
 use Rattle.star.specs.Lines.{onLine, excess}
+use Rattle.star.specs.LineSums.{Summed}
 use Rattle.flow.specs.Flows.{Closed}
-use Rattle.least.specs.Least.{Greatest, longer, share, remainder, missing, shared}
+use Rattle.least.specs.Least.{Greatest, longer, share, remainder, missing}
 
 -- ---- a line of a table
 -- the cells of one line are now given by f, and every other cell is as before
@@ -39,22 +40,19 @@ pub record Divided (n : ℕ) (cap e : List ℕ) (ℓ : ℕ) (shares claims : Lis
   pub claimed : (t : ℕ) → t < n → getD claims t 0 ≡ claim (remainder n cap e ℓ t) t
   pub lacks : rest ≡ missing n cap e ℓ
 
--- a line too long is shared, any other is left as it is
-pub record LineShared (n : ℕ) (cap : List ℕ) (ℓ : ℕ) (k k' : List ℕ) : Type 0 where
-  pub cut : longer n cap k ℓ ≡ true → Rewritten n ℓ (shared n cap k ℓ) k k'
-  pub uncut : longer n cap k ℓ ≡ false → k' ≡ k
-
 -- two lines still overflowing in E meet only in a zero cell
 pub record MeetInZero (n : ℕ) (cap e : List ℕ) : Type 0 where
   pub zero : (i j : ℕ) → i < n → j < n → longer n cap e i ≡ true → longer n cap e (n + j) ≡ true → cell n e i j ≡ 0
 
--- E in a table of exactly n * n cells, whose lines too long meet only in zero cells
-pub record CanShare (n : ℕ) (cap e : List ℕ) : Type 0 where
+-- E in a table of exactly n * n cells, whose lines too long meet only in zero cells, and the sums of its lines
+pub record CanShare (n : ℕ) (cap sums e : List ℕ) : Type 0 where
   pub nodes : n ≤ 64
   pub exact : length e ≡ n * n
   pub demands : Demands n e
   pub capacities : Capacities n cap
   pub apart : MeetInZero n cap e
+  pub room : 2 * n ≤ length sums
+  pub summed : Summed n e sums
 
 -- ---- the whole rule
 -- D in its table, a table for A, and one with a place for the mark of each line

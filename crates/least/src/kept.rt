@@ -1,5 +1,5 @@
 // What is kept of a demand D, given the withdrawn matrix A: E, which is D minus A, with each line that is still too long cut to its capacity.
-use star::lines::line_sum;
+use star::lines::line_sums;
 use star::lines::on_line;
 use star::lines::put_on_line;
 ghost use mathlib.Core.Path.{_≡_};
@@ -10,8 +10,8 @@ ghost use Rattle.sums.specs.Sums.{bit};
 ghost use Rattle.sums.specs.Tables.{square, written};
 ghost use Rattle.star.specs.Tables.{Square};
 ghost use Rattle.star.specs.Lines.{lineSum};
-ghost use Rattle.least.specs.Least.{left, keptCell, keptFrom};
-ghost use Rattle.least.specs.Promises.{Rewritten, Line, claim, larger, Divided, LineShared, CanShare, CanKeep};
+ghost use Rattle.least.specs.Least.{left, shared, keptCell, keptFrom};
+ghost use Rattle.least.specs.Promises.{Rewritten, Line, claim, larger, Divided, CanShare, CanKeep};
 
 // Writes E.
 fn leave(n: usize, demand: &[u32], withdrawn: &[u32], table: &mut [u32])
@@ -36,22 +36,22 @@ fn claim(remainder: u32, t: usize) -> u32
     remainder * 64 + (63 - t) as u32
 }
 
-// Divides the capacity of a line too long: the share of each cell, the claim of each, and the slots still missing.
+// Divides the capacity of a line too long, whose sum is given: the share of each cell, the claim of each, and the slots still missing.
 fn divide(
     n: usize,
     cap: &[u32],
     table: &[u32],
     line: usize,
+    sum: u32,
     shares: &mut [u32],
     claims: &mut [u32],
 ) -> u32
     requires { ⌜ Line n (now cap) (now table) line ⌝ }
     requires { ⌜ (n ≤ length (now shares)) × (n ≤ length (now claims)) ⌝ }
-    requires { ⌜ getD (now cap) line 0 < lineSum n (now table) line ⌝ }
+    requires { ⌜ (sum ≡ lineSum n (now table) line) × (getD (now cap) line 0 < sum) ⌝ }
     ensures { λ r. ⌜ Divided n (now (cap .entry)) (now (table .entry)) line (now (shares .exit)) (now (claims .exit)) r ⌝ }
 {
     let capacity = cap[line];
-    let sum = line_sum(n, table, line);
     let mut given: u32 = 0;
     let mut t = 0;
     while t < n {
@@ -109,31 +109,43 @@ fn give(n: usize, table: &mut [u32], line: usize, shares: &[u32], claims: &[u32]
     }
 }
 
-// Cuts a line to its capacity, if it is too long.
-fn share_line(n: usize, cap: &[u32], table: &mut [u32], line: usize)
+// Cuts a line too long, whose sum is given, to its capacity.
+fn share_line(n: usize, cap: &[u32], table: &mut [u32], line: usize, sum: u32)
     requires { ⌜ Line n (now cap) (now table) line ⌝ }
-    ensures { λ _. ⌜ LineShared n (now (cap .entry)) line (now (table .entry)) (now (table .exit)) ⌝ }
+    requires { ⌜ (sum ≡ lineSum n (now table) line) × (getD (now cap) line 0 < sum) ⌝ }
+    ensures { λ _. ⌜ Rewritten n line (shared n (now (cap .entry)) (now (table .entry)) line) (now (table .entry)) (now (table .exit)) ⌝ }
 {
-    if line_sum(n, table, line) <= cap[line] {
-        return;
-    }
     let mut shares = [0u32; 64];
     let mut claims = [0u32; 64];
-    let missing = divide(n, cap, table, line, &mut shares, &mut claims);
+    let missing = divide(n, cap, table, line, sum, &mut shares, &mut claims);
     give(n, table, line, &shares, &claims, missing);
 }
 
-// Cuts every line of E that is too long. Two such lines meet only in a zero cell, so no cut changes a line that is to be cut later.
-fn share_lines(n: usize, cap: &[u32], table: &mut [u32])
-    requires { ⌜ CanShare n (now cap) (now table) ⌝ }
+// Cuts every line of E that is too long, given the sums of all lines of E. Two such lines meet only in a zero cell, so no cut changes a line that
+// is to be cut later, and its sum is still E's.
+fn share_lines(n: usize, cap: &[u32], sums: &[u32], table: &mut [u32])
+    requires { ⌜ CanShare n (now cap) (now sums) (now table) ⌝ }
     ensures { λ _. ⌜ now (table .exit) ≡ square n (keptCell n (now (cap .entry)) (now (table .entry))) ⌝ }
 {
     let lines = 2 * n;
     let mut line = 0;
     while line < lines {
-        share_line(n, cap, table, line);
+        if sums[line] > cap[line] {
+            share_line(n, cap, table, line, sums[line]);
+        }
         line += 1;
     }
+}
+
+// What is kept, in a table of exactly n * n cells.
+fn keep_exactly(n: usize, cap: &[u32], demand: &[u32], withdrawn: &[u32], kept: &mut [u32])
+    requires { ⌜ (CanKeep n (now cap) (now demand) (now withdrawn) (now kept)) × (length (now kept) ≡ n * n) ⌝ }
+    ensures { λ _. ⌜ now (kept .exit) ≡ keptFrom n (now (cap .entry)) (now (demand .entry)) (now (withdrawn .entry)) ⌝ }
+{
+    let mut sums = [0u32; 128];
+    leave(n, demand, withdrawn, kept);
+    line_sums(n, kept, &mut sums);
+    share_lines(n, cap, &sums, kept);
 }
 
 // What is kept, given the demand and a greatest withdrawn matrix; cells beyond the first n * n are left as they are.
@@ -142,6 +154,5 @@ pub fn keep(n: usize, cap: &[u32], demand: &[u32], withdrawn: &[u32], kept: &mut
     ensures { λ _. ⌜ now (kept .exit) ≡ written (n * n) (keptFrom n (now (cap .entry)) (now (demand .entry)) (now (withdrawn .entry))) (now (kept .entry)) ⌝ }
 {
     let cells = n * n;
-    leave(n, demand, withdrawn, &mut kept[..cells]);
-    share_lines(n, cap, &mut kept[..cells]);
+    keep_exactly(n, cap, demand, withdrawn, &mut kept[..cells]);
 }

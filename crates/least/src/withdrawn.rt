@@ -1,26 +1,27 @@
 // The withdrawn matrix A: of those that take no more than the demand from a pair and no more than the excess from a line, one with the greatest total.
 use flow::largest;
 use star::lines::excess;
-use star::lines::line_sum;
+use star::lines::line_sums;
 use star::lines::slack;
 ghost use mathlib.Core.Path.{_≡_};
 ghost use Prim.Native.Nat.{_*_, _≤_};
-ghost use lib.ListN.{length};
-ghost use Rattle.sums.specs.Tables.{tab, written};
+ghost use lib.ListN.{length, take};
+ghost use Rattle.sums.specs.Tables.{tab};
 ghost use Rattle.star.specs.Tables.{Square, Demands, Capacities};
 ghost use Rattle.star.specs.Lines.{excess};
 ghost use Rattle.least.specs.Promises.{CanWithdraw, Withdrew};
 
-// Writes the excess of each line.
+// Writes the excess of each line: first the sums of all lines, and then each sum gives way to its excess.
 fn excesses(n: usize, cap: &[u32], demand: &[u32], table: &mut [u32])
     requires { ⌜ (Square n (now demand)) × (Demands n (now demand)) ⌝ }
     requires { ⌜ (Capacities n (now cap)) × (2 * n ≤ length (now table)) ⌝ }
-    ensures { λ _. ⌜ now (table .exit) ≡ written (2 * n) (tab (2 * n) (excess n (now (cap .entry)) (now (demand .entry)))) (now (table .entry)) ⌝ }
+    ensures { λ _. ⌜ take (2 * n) (now (table .exit)) ≡ tab (2 * n) (excess n (now (cap .entry)) (now (demand .entry))) ⌝ }
 {
+    line_sums(n, demand, table);
     let lines = 2 * n;
     let mut line = 0;
     while line < lines {
-        table[line] = excess(slack(cap[line], line_sum(n, demand, line)));
+        table[line] = excess(slack(cap[line], table[line]));
         line += 1;
     }
 }

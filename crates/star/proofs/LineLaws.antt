@@ -9,7 +9,7 @@ use lib.Dec.{ltb}
 use borrow.Author.Tests.{lt-ltb, le-ltb}
 use Rattle.sums.specs.Sums.{sumTo}
 use Rattle.sums.specs.Tables.{cell}
-use Rattle.sums.proofs.Sums.{sum-ext, sum-swap, sum-all-zero, sum-at, sum-mono, sum-split}
+use Rattle.sums.proofs.Sums.{sum-ext, sum-swap, sum-all-zero, sum-at, sum-most, sum-mono, sum-split}
 use Rattle.sums.proofs.Cases.{by-lt}
 use Rattle.sums.proofs.Tables.{cell-lt, place-split, take-replicate}
 use Rattle.star.specs.Tables.{Demands, Capacities}
@@ -60,6 +60,11 @@ row-sum n d i h = sum-ext n _ _ (λ t p. on-row n d i t h)
 pub column-sum : (n : ℕ) (d : List ℕ) (j : ℕ) → lineSum n d (n + j) ≡ sumTo n (λ i. cell n d i j)
 unfolding lineSum
 column-sum n d j = sum-ext n _ _ (λ t p. in-column n d j t)
+
+-- a line of demands is at most 64 × 65,535
+pub line-most : (n : ℕ) (d : List ℕ) (ℓ : ℕ) → n ≤ 64 → Demands n d → ℓ < 2 * n → lineSum n d ℓ ≤ 4194240
+unfolding lineSum
+line-most n d ℓ few h hl = omega (arith, sum-most n 65535 (onLine n d ℓ) (λ t ht. on-line-most n d ℓ t h hl ht))
 
 pub cell-in-row : (n : ℕ) (a : List ℕ) (i j : ℕ) → i < n → j < n → cell n a i j ≤ lineSum n a i
 cell-in-row n a i j p q = rw (row-sum n a i p) (sum-at n (λ j. cell n a i j) j q)

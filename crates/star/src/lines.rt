@@ -3,13 +3,16 @@ use crate::tables::get;
 use crate::tables::put;
 ghost use mathlib.Core.Path.{_≡_};
 ghost use Prim.Native.Nat.{_+_, _*_, _<_, _≤_};
+ghost use lib.Dec.{ltb};
 ghost use lib.ListN.{length, set};
 ghost use lib.IntN.{subℕ};
 ghost use lib.Signed.{mag};
+ghost use Rattle.sums.specs.Sums.{bit};
 ghost use Rattle.star.specs.Tables.{Square, Demands};
 ghost use Rattle.star.specs.Lines.{sourceOn, destinationOn, crossing, onLine, lineSum, excessOf};
 ghost use Rattle.star.specs.LineSums.{Summed, Unsummed, SummedTo};
 ghost use Rattle.star.specs.Refusals.{firstAbove};
+ghost use Rattle.star.specs.RowSearches.{aboveTo, FirstInRow};
 
 // The line that crosses a line at its t-th pair.
 pub fn crossing(n: usize, line: usize, t: usize) -> usize
@@ -123,23 +126,50 @@ pub fn excess(slack: i32) -> u32
     if slack < 0 { (-slack) as u32 } else { 0 }
 }
 
-// The first demand above 65,535 in row order, or n * n.
+// 1 if a demand is above 65,535, else 0.
+fn above(x: u32) -> u32
+    ensures { λ r. ⌜ r ≡ bit (ltb 65535 x) ⌝ }
+{
+    if x > 65535 { 1 } else { 0 }
+}
+
+// How many demands of row i are above 65,535: one comparison a cell, which the machine makes for several at once.
+fn row_above(n: usize, demand: &[u32], i: usize) -> u32
+    requires { ⌜ (Square n (now demand)) × (i < n) ⌝ }
+    ensures { λ r. ⌜ r ≡ aboveTo n (now (demand .entry)) i n ⌝ }
+{
+    let mut count: u32 = 0;
+    let mut j = 0;
+    while j < n {
+        count += above(get(n, demand, i, j));
+        j += 1;
+    }
+    count
+}
+
+// The first destination whose demand is above 65,535, in a row that has one: so the loop ends.
+fn first_in_row(n: usize, demand: &[u32], i: usize) -> usize
+    requires { ⌜ (Square n (now demand)) × (i < n) × (0 < aboveTo n (now demand) i n) ⌝ }
+    ensures { λ r. ⌜ FirstInRow n (now (demand .entry)) i r ⌝ }
+{
+    let mut j = 0;
+    while get(n, demand, i, j) <= 65535 {
+        j += 1;
+    }
+    j
+}
+
+// The first demand above 65,535 in row order, or n * n: only a row that has one is searched.
 pub fn first_above(n: usize, demand: &[u32]) -> usize
     requires { ⌜ Square n (now demand) ⌝ }
     ensures { λ r. ⌜ r ≡ firstAbove n (now (demand .entry)) ⌝ }
 {
-    let mut found = n * n;
     let mut i = 0;
-    'rows: while i < n {
-        let mut j = 0;
-        while j < n {
-            if get(n, demand, i, j) > 65535 {
-                found = i * n + j;
-                break 'rows;
-            }
-            j += 1;
+    while i < n {
+        if row_above(n, demand, i) > 0 {
+            return i * n + first_in_row(n, demand, i);
         }
         i += 1;
     }
-    found
+    n * n
 }

@@ -19,7 +19,7 @@ array-share-prefix-limits c = search needs
 
 slice-aggregate-largest : tie.Need-slice-aggregate-largest
 slice-aggregate-largest c = let args = c .before .before .before .before .before .before .before .before .args in
-    limits-fit (args .n) (args .cap .now) (args .demand .now) _ _ (c .before .before .excesses .ensures)
+    limits-fit (args .n) (args .cap .now) (args .demand .now) _ (c .before .before .excesses .ensures)
 
 largest-requires : tie.Need-largest-requires
 largest-requires c κs = let args = c .before .before .before .before .before .before .before .before .before .before .args in
@@ -28,7 +28,7 @@ largest-requires c κs = let args = c .before .before .before .before .before .b
       bounds = pre .demand;
       demands = pre .demands;
       cells = pre .withdrawn;
-      limits = omega (arith, limits-fit (args .n) (args .cap .now) (args .demand .now) _ _ (c .before .before .before .before .excesses .ensures));
+      limits = omega (arith, limits-fit (args .n) (args .cap .now) (args .demand .now) _ (c .before .before .before .before .excesses .ensures));
       lines = pre .lines;
     }
 
@@ -39,7 +39,7 @@ same-length-2 : tie.Need-same-length-2
 same-length-2 c = search needs
 
 returns : tie.Need-returns
-returns c = certified-is-withdrawn _ _ _ _ _ (c .before .before .before .before .before .before .before .before .before .excesses .ensures) (c .before .before .before .before .largest .ensures)
+returns c = certified-is-withdrawn _ _ _ _ (c .before .before .before .before .before .before .before .before .before .excesses .ensures) (c .before .before .before .before .largest .ensures)
 
 pub withdraw-spec : {M : Type 1} → statement M
 withdraw-spec =
