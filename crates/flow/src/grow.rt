@@ -32,7 +32,19 @@ fn grow_with(
         if last > n {
             return;
         }
-        drain(n, bound, a, room, offers, takers, rows, columns, at, to, last);
+        drain(
+            n,
+            bound,
+            a,
+            room,
+            offers,
+            takers,
+            rows,
+            columns,
+            at,
+            to,
+            last,
+        );
     }
 }
 

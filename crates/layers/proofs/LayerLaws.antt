@@ -250,9 +250,9 @@ module _ {n : ℕ} {offers takers rows columns : List ℕ} {roots goals fr fc he
           columns = λ i j p q e t. omega (arith, K .columns j q, reached-rows i j p q (omega (arith, K .rows i p)) t);
           rows = λ i j p q e t.
               let z : member i fr ≡ 0 =
-                  by-eq (member j new) 1
-                  (λ o. by-eq (member i fr) 0 (λ z. z) (λ z. absurd (first-none F' none i p (L' .all i j p q (omega (arith, member-lt i fr)) t o))))
-                  (λ o. S .seen-columns i j p q (minus-case M j (omega (arith, K .columns j q)) o) t)
+              by-eq (member j new) 1
+              (λ o. by-eq (member i fr) 0 (λ z. z) (λ z. absurd (first-none F' none i p (L' .all i j p q (omega (arith, member-lt i fr)) t o))))
+              (λ o. S .seen-columns i j p q (minus-case M j (omega (arith, K .columns j q)) o) t)
               in
               omega (arith, K .rows i p);
           ends = λ j p e. reached-shut j p (omega (arith, K .columns j p));

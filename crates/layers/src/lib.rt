@@ -15,7 +15,11 @@ fn leading(n: usize, list: &[u64], which: u64, to: u64) -> u64
     let mut s = nodes::none();
     let mut i = 0;
     while i < n {
-        s = nodes::with_where(s, i, nodes::first(nodes::both(lists::set_at(list, i), to)) < 64);
+        s = nodes::with_where(
+            s,
+            i,
+            nodes::first(nodes::both(lists::set_at(list, i), to)) < 64,
+        );
         i += 1;
     }
     nodes::both(s, which)

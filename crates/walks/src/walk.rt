@@ -86,6 +86,19 @@ pub fn drain(
         if e >= n {
             return;
         }
-        walk(n, bound, a, room, offers, takers, rows, columns, at, to, e, last);
+        walk(
+            n,
+            bound,
+            a,
+            room,
+            offers,
+            takers,
+            rows,
+            columns,
+            at,
+            to,
+            e,
+            last,
+        );
     }
 }

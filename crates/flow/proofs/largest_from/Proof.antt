@@ -1,65 +1,47 @@
-use mathlib.Core.Path.{_∙_}
+-- `flow::largest_from` meets its contract: the sets are right for a matrix of zeros. Assumes nothing.
 use native.Mathlib.Omega.{arith}
-use Rattle.flow.proofs.Grows.{empty-sides, grew-grown}
+use mathlib.Core.Path.{_∙_}
 use borrow.Author.Needs.{needs}
+use Rattle.flow.proofs.Grows.{empty-sides, grew-grown}
 use Rattle.flow.proofs.largest_from.Statement.{statement}
 use Rattle.flow.proofs.largest_from.Tie as tie
-use Rattle.flow.proofs.largest_from.Reads as reads
-use Rattle.flow.proofs.largest_from.Lts as lts
-use Rattle.at_least.proofs.rows.Reads as rows-reads
-use Rattle.flow.proofs.grow.grow.Reads as grow-reads
-use Rattle.growth.proofs.fill.fill.Reads as fill-reads
-use Rattle.growth.proofs.sides.roomy.Reads as roomy-reads
 
--- src/lib.rt:23:33
 slice-aggregate-rows : tie.Need-slice-aggregate-rows
 slice-aggregate-rows c = search needs
 
--- src/lib.rt:23:5
 rows-requires : tie.Need-rows-requires
 rows-requires c κs = (c .before .before .before .before .before .pre .below .bounds, omega (arith, c .before .before .before .before .before .pre .below .cells .nodes))
 
--- src/lib.rt:24:9
 roomy-requires : tie.Need-roomy-requires
 roomy-requires c κs = (c .before .before .before .before .before .before .before .before .pre .below .cells .nodes, omega (arith, c .before .before .before .before .before .before .before .before .pre .rooms))
 
--- src/lib.rt:25:29
 slice-aggregate-fill : tie.Need-slice-aggregate-fill
 slice-aggregate-fill c = search needs
 
--- src/lib.rt:25:42
 slice-aggregate-fill-2 : tie.Need-slice-aggregate-fill-2
 slice-aggregate-fill-2 c = search needs
 
--- src/lib.rt:25:5
 fill-requires : tie.Need-fill-requires
 fill-requires c κs = (empty-sides (c .before .before .before .before .before .before .before .before .before .before .before .before .before .pre) (c .before .before .before .before .before .before .before .rows .ensures) (omega (arith, c .before .before .before .before .before .before .before .rows .kept .1 .1 .1 .0, c .before .before .before .before .before .before .before .before .before .before .before .before .before .pre .below .cells .nodes)), c .before .before .before .before .before .before .before .before .before .before .before .before .before .pre .rooms)
 
--- src/lib.rt:26:29
 slice-aggregate-grow : tie.Need-slice-aggregate-grow
 slice-aggregate-grow c = search needs
 
--- src/lib.rt:26:42
 slice-aggregate-grow-2 : tie.Need-slice-aggregate-grow-2
 slice-aggregate-grow-2 c = search needs
 
--- src/lib.rt:26:5
 grow-requires : tie.Need-grow-requires
 grow-requires c κs = (c .before .before .before .before .before .before .before .before .before .before .before .fill .ensures .sides, omega (arith, c .before .before .before .before .before .before .before .before .before .before .before .before .before .before .before .before .before .before .before .before .before .before .before .before .before .pre .rooms, c .before .before .before .before .before .before .before .before .before .before .before .fill .kept .1 .1 .1 .0), c .before .before .before .before .before .before .before .before .before .before .before .before .before .before .before .before .before .before .before .before .before .before .before .before .before .pre .lines)
 
--- src/lib.rt:17:1
 same-length : tie.Need-same-length
 same-length c = c .before .before .before .before .before .before .before .before .grow .kept .1 .1 .0 ∙ c .before .before .before .before .before .before .before .before .before .before .before .before .before .before .before .before .before .before .before .before .fill .kept .1 .1 .0
 
--- src/lib.rt:17:1
 same-length-2 : tie.Need-same-length-2
 same-length-2 c = c .before .before .before .before .before .before .before .before .grow .kept .1 .1 .1 .0 ∙ c .before .before .before .before .before .before .before .before .before .before .before .before .before .before .before .before .before .before .before .before .fill .kept .1 .1 .1 .0
 
--- src/lib.rt:17:1
 same-length-3 : tie.Need-same-length-3
 same-length-3 c = c .before .before .before .before .before .before .before .before .grow .kept .1 .1 .1 .1 .1 .1 .0
 
--- src/lib.rt:17:1
 returns : tie.Need-returns
 returns c = grew-grown (c .before .before .before .before .before .before .before .before .before .before .before .before .before .before .before .before .before .before .before .before .fill .ensures) (c .before .before .before .before .before .before .before .before .grow .ensures)
 

@@ -1,9 +1,9 @@
 -- `flow::largest_on` meets its contract: from zeros and limits to the end. Assumes nothing.
-use Rattle.flow.proofs.Ends.{empty-start, finished}
-use Rattle.sums.proofs.Fills.{cleared-at, copied-at}
-use native.Mathlib.Omega.{arith}
 use Prim.Native.Nat.{_*_}
+use native.Mathlib.Omega.{arith}
 use borrow.Author.Needs.{needs}
+use Rattle.sums.proofs.Fills.{cleared-at, copied-at}
+use Rattle.flow.proofs.Ends.{empty-start, finished}
 use Rattle.flow.proofs.largest_on.Statement.{statement}
 use Rattle.flow.proofs.largest_on.Tie as tie
 

@@ -1,99 +1,70 @@
-use mathlib.Core.Path.{refl}
+-- `flow::largest_within` meets its contract, whether some row and some column have room or not. Assumes nothing.
 use native.Mathlib.Omega.{arith}
+use mathlib.Core.Path.{refl}
 use Rattle.flow.proofs.Grows.{no-row-grown, no-column-grown}
-use borrow.Author.Needs.{needs}
 use Rattle.flow.proofs.largest_within.Statement.{statement}
 use Rattle.flow.proofs.largest_within.Tie as tie
-use Rattle.flow.proofs.largest_within.Reads as reads
-use Rattle.flow.proofs.largest_within.Lts as lts
-use Rattle.flow.proofs.largest_from.Reads as largest-from-reads
-use Rattle.growth.proofs.sides.roomy.Reads as roomy-reads
-use Rattle.layers.proofs.mark.Reads as mark-reads
-use Rattle.nodes.proofs.all.Reads as all-reads
-use Rattle.nodes.proofs.first.Reads as first-reads
-use Rattle.nodes.proofs.none.Reads as none-reads
 
--- src/lib.rt:34:21
 roomy-requires : tie.Need-roomy-requires
 roomy-requires c κs = (c .before .before .before .before .before .pre .below .cells .nodes, omega (arith, c .before .before .before .before .before .pre .rooms))
 
--- src/lib.rt:34:8
 first-requires : tie.Need-first-requires
 first-requires c κs = tt
 
--- src/lib.rt:35:24
 all-requires : tie.Need-all-requires
 all-requires c κs = tt
 
--- src/lib.rt:35:38
 all-requires-2 : tie.Need-all-requires-2
 all-requires-2 c κs = tt
 
--- src/lib.rt:35:9
 mark-requires : tie.Need-mark-requires
 mark-requires c κs = (c .before .before .before .before .before .before .before .before .before .before .before .pre .below .cells .nodes, c .before .before .before .before .before .before .before .before .before .before .before .pre .lines)
 
--- src/lib.rt:36:9
 same-length : tie.Need-same-length
 same-length c = refl
 
--- src/lib.rt:36:9
 same-length-2 : tie.Need-same-length-2
 same-length-2 c = c .before .before .mark .kept .1 .0
 
--- src/lib.rt:36:9
 returns : tie.Need-returns
 returns c = no-row-grown (c .before .before .before .before .before .before .before .before .before .before .before .before .before .before .pre) (c .before .before .before .before .before .before .before .first .ensures) (c .before .before .before .before .before .before .if1 .taken) (c .before .before .mark .ensures) (c .before .before .before .before .before .before .before .before .roomy .ensures) (c .before .before .before .before .all .ensures) (c .before .before .before .all2 .ensures)
 
--- src/lib.rt:38:21
 roomy-requires-2 : tie.Need-roomy-requires-2
 roomy-requires-2 c κs = (c .before .before .before .before .before .before .before .before .before .pre .below .cells .nodes, omega (arith, c .before .before .before .before .before .before .before .before .before .pre .rooms))
 
--- src/lib.rt:38:8
 first-requires-2 : tie.Need-first-requires-2
 first-requires-2 c κs = tt
 
--- src/lib.rt:39:24
 none-requires : tie.Need-none-requires
 none-requires c κs = tt
 
--- src/lib.rt:39:39
 none-requires-2 : tie.Need-none-requires-2
 none-requires-2 c κs = tt
 
--- src/lib.rt:39:9
 mark-requires-2 : tie.Need-mark-requires-2
 mark-requires-2 c κs = (c .before .before .before .before .before .before .before .before .before .before .before .before .before .before .before .pre .below .cells .nodes, c .before .before .before .before .before .before .before .before .before .before .before .before .before .before .before .pre .lines)
 
--- src/lib.rt:40:9
 same-length-3 : tie.Need-same-length-3
 same-length-3 c = refl
 
--- src/lib.rt:40:9
 same-length-4 : tie.Need-same-length-4
 same-length-4 c = c .before .before .mark2 .kept .1 .0
 
--- src/lib.rt:40:9
 returns-2 : tie.Need-returns-2
 returns-2 c = no-column-grown (c .before .before .before .before .before .before .before .before .before .before .before .before .before .before .before .before .before .before .pre) (c .before .before .before .before .before .before .before .first2 .ensures) (c .before .before .before .before .before .before .if2 .taken) (c .before .before .mark2 .ensures) (c .before .before .before .before .before .before .before .before .roomy2 .ensures) (c .before .before .before .before .none .ensures) (c .before .before .before .none2 .ensures)
 
--- src/lib.rt:42:5
 largest-from-requires : tie.Need-largest-from-requires
 largest-from-requires c κs = c .before .before .before .before .before .before .before .before .before .before .before .before .before .before .before .pre
 
--- src/lib.rt:30:1
 same-length-5 : tie.Need-same-length-5
 same-length-5 c = c .before .before .before .before .before .before .largest-from .kept .1 .1 .0
 
--- src/lib.rt:30:1
 same-length-6 : tie.Need-same-length-6
 same-length-6 c = c .before .before .before .before .before .before .largest-from .kept .1 .1 .1 .0
 
--- src/lib.rt:30:1
 same-length-7 : tie.Need-same-length-7
 same-length-7 c = c .before .before .before .before .before .before .largest-from .kept .1 .1 .1 .1 .0
 
--- src/lib.rt:30:1
 returns-3 : tie.Need-returns-3
 returns-3 c = c .before .before .before .before .before .before .largest-from .ensures
 

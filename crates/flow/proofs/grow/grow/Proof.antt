@@ -1,53 +1,40 @@
-use Rattle.flow.proofs.Grows.{can-grow}
+-- `flow::grow::grow` meets its contract: the lists are long enough. Assumes nothing.
 use native.Mathlib.Omega.{arith}
 use borrow.Author.Needs.{needs}
+use Rattle.flow.proofs.Grows.{can-grow}
 use Rattle.flow.proofs.grow.grow.Statement.{statement}
 use Rattle.flow.proofs.grow.grow.Tie as tie
-use Rattle.flow.proofs.grow.grow.Reads as reads
-use Rattle.flow.proofs.grow.grow.Lts as lts
-use Rattle.flow.proofs.grow.grow_with.Reads as grow-with-reads
 
--- src/grow.rt:63:9
 slice-aggregate-grow-with : tie.Need-slice-aggregate-grow-with
 slice-aggregate-grow-with c = search needs
 
--- src/grow.rt:64:9
 slice-aggregate-grow-with-2 : tie.Need-slice-aggregate-grow-with-2
 slice-aggregate-grow-with-2 c = search needs
 
--- src/grow.rt:65:9
 slice-aggregate-grow-with-3 : tie.Need-slice-aggregate-grow-with-3
 slice-aggregate-grow-with-3 c = search needs
 
--- src/grow.rt:66:9
 slice-aggregate-grow-with-4 : tie.Need-slice-aggregate-grow-with-4
 slice-aggregate-grow-with-4 c = search needs
 
--- src/grow.rt:56:5
 grow-with-requires : tie.Need-grow-with-requires
 grow-with-requires c κs = can-grow (c .before .before .before .before .before .before .before .before .before .before .before .before .before .before .before .pre .0) (c .before .before .before .before .before .before .before .before .before .before .before .before .before .before .before .pre .1) (c .before .before .before .before .before .before .before .before .before .before .before .before .before .before .before .pre .2) (omega arith) (omega arith) (omega arith) (omega arith)
 
--- src/grow.rt:40:1
 same-length : tie.Need-same-length
 same-length c = c .before .before .before .before .before .before .before .before .before .before .before .before .before .before .grow-with .kept .1 .1 .0
 
--- src/grow.rt:40:1
 same-length-2 : tie.Need-same-length-2
 same-length-2 c = c .before .before .before .before .before .before .before .before .before .before .before .before .before .before .grow-with .kept .1 .1 .1 .0
 
--- src/grow.rt:40:1
 same-length-3 : tie.Need-same-length-3
 same-length-3 c = c .before .before .before .before .before .before .before .before .before .before .before .before .before .before .grow-with .kept .1 .1 .1 .1 .0
 
--- src/grow.rt:40:1
 same-length-4 : tie.Need-same-length-4
 same-length-4 c = c .before .before .before .before .before .before .before .before .before .before .before .before .before .before .grow-with .kept .1 .1 .1 .1 .1 .0
 
--- src/grow.rt:40:1
 same-length-5 : tie.Need-same-length-5
 same-length-5 c = c .before .before .before .before .before .before .before .before .before .before .before .before .before .before .grow-with .kept .1 .1 .1 .1 .1 .1 .1 .1 .1 .1 .0
 
--- src/grow.rt:40:1
 returns : tie.Need-returns
 returns c = c .before .before .before .before .before .before .before .before .before .before .before .before .before .before .grow-with .ensures
 

@@ -1,16 +1,12 @@
+-- `flow::grow::grow_with` meets its contract: each search that finds a column with room lets the rows' room fall. Assumes nothing.
 use native.Mathlib.Omega.{arith}
 use mathlib.Core.Path.{_≡_, refl, _∙_}
 use lib.ListN.{length}
-use Rattle.growth.specs.Sides.{Grew}
 use Rattle.growth.specs.Growth.{rowRoom}
+use Rattle.growth.specs.Sides.{Grew}
 use Rattle.flow.proofs.Grows.{grow-start, grow-step, layer-lists, found-drain, unreached-grown}
 use Rattle.flow.proofs.grow.grow_with.Statement.{statement}
 use Rattle.flow.proofs.grow.grow_with.Tie as tie
-use Rattle.flow.proofs.grow.grow_with.Reads as reads
-use Rattle.flow.proofs.grow.grow_with.Lts as lts
-use Rattle.growth.proofs.sides.roomy.Reads as roomy-reads
-use Rattle.layers.proofs.search.Reads as search-reads
-use Rattle.walks.proofs.walk.drain.Reads as drain-reads
 
 abbrev Inv-loop : tie.InvT-loop
 Inv-loop n bound a₀ room₀ offers₀ takers₀ rows₀ columns₀ at₀ to₀ marks₀ a room offers takers rows columns at to marks = (length a ≡ length a₀) × (length room ≡ length room₀) × (length offers ≡ length offers₀) × (length takers ≡ length takers₀) × (length rows ≡ length rows₀) × (length columns ≡ length columns₀) × (length at ≡ length at₀) × (length to ≡ length to₀) × (length marks ≡ length marks₀) × Grew n bound a₀ room₀ a room offers takers
@@ -18,71 +14,54 @@ Inv-loop n bound a₀ room₀ offers₀ takers₀ rows₀ columns₀ at₀ to₀
 abbrev μ-loop : tie.MeasureT-loop
 μ-loop n bound a₀ room₀ offers₀ takers₀ rows₀ columns₀ at₀ to₀ marks₀ a room offers takers rows columns at to marks = rowRoom n room
 
--- src/grow.rt:28:5
 loop-holds : tie.Need-loop-holds Inv-loop μ-loop
 loop-holds c = (refl, refl, refl, refl, refl, refl, refl, refl, refl, grow-start _ (c .before .before .before .before .before .before .before .before .before .before .pre .sides))
 
--- src/grow.rt:29:13
 roomy-requires : tie.Need-roomy-requires Inv-loop μ-loop
 roomy-requires c κs = (c .before .before .before .before .before .before .before .before .before .before .before .before .pre .lists .layers .nodes, omega (arith, c .before .before .before .before .before .before .before .before .before .before .before .before .pre .rooms, c .before .loop .inv .1))
 
--- src/grow.rt:30:13
 roomy-requires-2 : tie.Need-roomy-requires-2 Inv-loop μ-loop
 roomy-requires-2 c κs = (c .before .before .before .before .before .before .before .before .before .before .before .before .before .before .pre .lists .layers .nodes, omega (arith, c .before .before .before .before .before .before .before .before .before .before .before .before .before .before .pre .rooms, c .before .before .before .loop .inv .1))
 
--- src/grow.rt:31:13
 search-requires : tie.Need-search-requires Inv-loop μ-loop
 search-requires c κs = (c .before .before .before .before .before .before .before .before .before .loop .inv .9 .sides .columns, c .before .before .before .before .before .before .before .before .before .loop .inv .9 .sides .rows, layer-lists (c .before .before .before .before .before .before .before .before .before .before .before .before .before .before .before .before .before .before .before .before .pre .lists) (c .before .before .before .before .before .before .before .before .before .loop .inv .4) (c .before .before .before .before .before .before .before .before .before .loop .inv .5), omega (arith, c .before .before .before .before .before .before .before .before .before .before .before .before .before .before .before .before .before .before .before .before .pre .lines, c .before .before .before .before .before .before .before .before .before .loop .inv .8), c .before .before .before .before .before .before .before .roomy .ensures .within)
 
--- src/grow.rt:33:13
 same-length : tie.Need-same-length Inv-loop μ-loop
 same-length c = c .before .before .before .before .before .before .before .before .before .before .before .before .before .before .before .before .before .loop .inv .0
 
--- src/grow.rt:33:13
 same-length-2 : tie.Need-same-length-2 Inv-loop μ-loop
 same-length-2 c = c .before .before .before .before .before .before .before .before .before .before .before .before .before .before .before .before .before .loop .inv .1
 
--- src/grow.rt:33:13
 same-length-3 : tie.Need-same-length-3 Inv-loop μ-loop
 same-length-3 c = c .before .before .before .before .before .before .before .before .before .before .before .before .before .before .before .before .before .loop .inv .2
 
--- src/grow.rt:33:13
 same-length-4 : tie.Need-same-length-4 Inv-loop μ-loop
 same-length-4 c = c .before .before .before .before .before .before .before .before .before .before .before .before .before .before .before .before .before .loop .inv .3
 
--- src/grow.rt:33:13
 same-length-5 : tie.Need-same-length-5 Inv-loop μ-loop
 same-length-5 c = c .before .before .before .before .before .before .before .search .kept .1 .1 .1 .0 ∙ c .before .before .before .before .before .before .before .before .before .before .before .before .before .before .before .before .before .loop .inv .4
 
--- src/grow.rt:33:13
 same-length-6 : tie.Need-same-length-6 Inv-loop μ-loop
 same-length-6 c = c .before .before .before .before .before .before .before .search .kept .1 .1 .1 .1 .0 ∙ c .before .before .before .before .before .before .before .before .before .before .before .before .before .before .before .before .before .loop .inv .5
 
--- src/grow.rt:33:13
 same-length-7 : tie.Need-same-length-7 Inv-loop μ-loop
 same-length-7 c = c .before .before .before .before .before .before .before .before .before .before .before .before .before .before .before .before .before .loop .inv .6
 
--- src/grow.rt:33:13
 same-length-8 : tie.Need-same-length-8 Inv-loop μ-loop
 same-length-8 c = c .before .before .before .before .before .before .before .before .before .before .before .before .before .before .before .before .before .loop .inv .7
 
--- src/grow.rt:33:13
 same-length-9 : tie.Need-same-length-9 Inv-loop μ-loop
 same-length-9 c = c .before .before .before .before .before .before .before .search .kept .1 .1 .1 .1 .1 .0 ∙ c .before .before .before .before .before .before .before .before .before .before .before .before .before .before .before .before .before .loop .inv .8
 
--- src/grow.rt:33:13
 returns : tie.Need-returns Inv-loop μ-loop
 returns c = unreached-grown (c .before .before .before .before .before .before .before .before .before .before .before .before .before .before .before .before .before .loop .inv .9) (c .before .before .before .before .before .before .before .search .ensures .none (c .if1 .taken)) (c .before .before .before .before .before .before .before .before .before .before .before .before .before .before .before .roomy .ensures) (c .before .before .before .before .before .before .before .before .before .before .before .before .before .roomy2 .ensures)
 
--- src/grow.rt:35:9
 drain-requires : tie.Need-drain-requires Inv-loop μ-loop
 drain-requires c κs = found-drain (c .before .before .before .before .before .before .before .before .before .before .before .before .before .before .before .before .before .before .before .before .before .before .before .before .before .loop .inv .9 .sides) (c .before .before .before .before .before .before .before .before .before .before .before .before .before .before .before .before .before .before .before .before .before .before .before .before .before .before .before .before .before .before .before .before .before .before .before .before .pre .lists) (c .before .before .before .before .before .before .before .before .before .before .before .before .before .before .before .search .kept .1 .1 .1 .0 ∙ c .before .before .before .before .before .before .before .before .before .before .before .before .before .before .before .before .before .before .before .before .before .before .before .before .before .loop .inv .4) (c .before .before .before .before .before .before .before .before .before .before .before .before .before .before .before .search .kept .1 .1 .1 .1 .0 ∙ c .before .before .before .before .before .before .before .before .before .before .before .before .before .before .before .before .before .before .before .before .before .before .before .before .before .loop .inv .5) (c .before .before .before .before .before .before .before .before .before .before .before .before .before .before .before .before .before .before .before .before .before .before .before .before .before .loop .inv .6) (c .before .before .before .before .before .before .before .before .before .before .before .before .before .before .before .before .before .before .before .before .before .before .before .before .before .loop .inv .7) (omega (arith, c .before .before .before .before .before .before .before .before .before .before .before .before .before .before .before .before .before .before .before .before .before .before .before .before .before .before .before .before .before .before .before .before .before .before .before .before .pre .rooms, c .before .before .before .before .before .before .before .before .before .before .before .before .before .before .before .before .before .before .before .before .before .before .before .before .before .loop .inv .1)) (c .before .before .before .before .before .before .before .before .before .before .before .before .before .before .before .before .before .before .before .before .before .before .before .roomy .ensures) (c .before .before .before .before .before .before .before .before .before .before .before .before .before .before .before .before .before .before .before .before .before .roomy2 .ensures) (c .before .before .before .before .before .before .before .before .before .before .before .before .before .before .before .search .ensures .found (c .before .before .before .before .before .before .before .before .if1 .left))
 
--- src/grow.rt:28:5
 loop-less : tie.Need-loop-less Inv-loop μ-loop
 loop-less c = c .before .before .before .before .before .before .before .before .before .before .before .before .before .before .before .before .drain .ensures .falls
 
--- src/grow.rt:28:5
 loop-again : tie.Need-loop-again Inv-loop μ-loop
 loop-again c = (c .before .before .before .before .before .before .before .before .before .before .before .before .before .before .before .before .drain .kept .1 .1 .0 ∙ c .before .before .before .before .before .before .before .before .before .before .before .before .before .before .before .before .before .before .before .before .before .before .before .before .before .before .before .before .before .before .before .before .before .before .before .before .before .before .before .before .before .before .loop .inv .0, c .before .before .before .before .before .before .before .before .before .before .before .before .before .before .before .before .drain .kept .1 .1 .1 .0 ∙ c .before .before .before .before .before .before .before .before .before .before .before .before .before .before .before .before .before .before .before .before .before .before .before .before .before .before .before .before .before .before .before .before .before .before .before .before .before .before .before .before .before .before .loop .inv .1, c .before .before .before .before .before .before .before .before .before .before .before .before .before .before .before .before .drain .kept .1 .1 .1 .1 .0 ∙ c .before .before .before .before .before .before .before .before .before .before .before .before .before .before .before .before .before .before .before .before .before .before .before .before .before .before .before .before .before .before .before .before .before .before .before .before .before .before .before .before .before .before .loop .inv .2, c .before .before .before .before .before .before .before .before .before .before .before .before .before .before .before .before .drain .kept .1 .1 .1 .1 .1 .0 ∙ c .before .before .before .before .before .before .before .before .before .before .before .before .before .before .before .before .before .before .before .before .before .before .before .before .before .before .before .before .before .before .before .before .before .before .before .before .before .before .before .before .before .before .loop .inv .3, c .before .before .before .before .before .before .before .before .before .before .before .before .before .before .before .before .drain .kept .1 .1 .1 .1 .1 .1 .0 ∙ c .before .before .before .before .before .before .before .before .before .before .before .before .before .before .before .before .before .before .before .before .before .before .before .before .before .before .before .before .before .before .before .before .search .kept .1 .1 .1 .0 ∙ c .before .before .before .before .before .before .before .before .before .before .before .before .before .before .before .before .before .before .before .before .before .before .before .before .before .before .before .before .before .before .before .before .before .before .before .before .before .before .before .before .before .before .loop .inv .4, c .before .before .before .before .before .before .before .before .before .before .before .before .before .before .before .before .drain .kept .1 .1 .1 .1 .1 .1 .1 .0 ∙ c .before .before .before .before .before .before .before .before .before .before .before .before .before .before .before .before .before .before .before .before .before .before .before .before .before .before .before .before .before .before .before .before .search .kept .1 .1 .1 .1 .0 ∙ c .before .before .before .before .before .before .before .before .before .before .before .before .before .before .before .before .before .before .before .before .before .before .before .before .before .before .before .before .before .before .before .before .before .before .before .before .before .before .before .before .before .before .loop .inv .5, c .before .before .before .before .before .before .before .before .before .before .before .before .before .before .before .before .drain .kept .1 .1 .1 .1 .1 .1 .1 .1 .0 ∙ c .before .before .before .before .before .before .before .before .before .before .before .before .before .before .before .before .before .before .before .before .before .before .before .before .before .before .before .before .before .before .before .before .before .before .before .before .before .before .before .before .before .before .loop .inv .6, c .before .before .before .before .before .before .before .before .before .before .before .before .before .before .before .before .drain .kept .1 .1 .1 .1 .1 .1 .1 .1 .1 .0 ∙ c .before .before .before .before .before .before .before .before .before .before .before .before .before .before .before .before .before .before .before .before .before .before .before .before .before .before .before .before .before .before .before .before .before .before .before .before .before .before .before .before .before .before .loop .inv .7, c .before .before .before .before .before .before .before .before .before .before .before .before .before .before .before .before .before .before .before .before .before .before .before .before .before .before .before .before .before .before .before .before .search .kept .1 .1 .1 .1 .1 .0 ∙ c .before .before .before .before .before .before .before .before .before .before .before .before .before .before .before .before .before .before .before .before .before .before .before .before .before .before .before .before .before .before .before .before .before .before .before .before .before .before .before .before .before .before .loop .inv .8, grow-step (c .before .before .before .before .before .before .before .before .before .before .before .before .before .before .before .before .before .before .before .before .before .before .before .before .before .before .before .before .before .before .before .before .before .before .before .before .before .before .before .before .before .before .loop .inv .9) (c .before .before .before .before .before .before .before .before .before .before .before .before .before .before .before .before .drain .ensures))
 

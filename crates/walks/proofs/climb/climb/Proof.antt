@@ -1,3 +1,4 @@
+-- `walks::climb::climb` meets its contract: from layer k on the path is known. Each step goes up a layer, or takes a node out of one. Assumes nothing.
 use Prim.Native.Nat.{_+_, _-_, _*_}
 use native.Mathlib.Omega.{arith}
 use mathlib.Core.Path.{_∙_}
@@ -5,15 +6,6 @@ use Rattle.walks.specs.Paths.{weight}
 use Rattle.walks.proofs.Climbs.{Climb, climb-lists, climb-start, fits-rows, fits-columns, fits-at, fits-to, here, column-falls, climb-none, climb-down, climb-end, row-falls, climb-beside, climb-up}
 use Rattle.walks.proofs.climb.climb.Statement.{statement}
 use Rattle.walks.proofs.climb.climb.Tie as tie
-use Rattle.walks.proofs.climb.climb.Reads as reads
-use Rattle.walks.proofs.climb.climb.Lts as lts
-use Rattle.arrays.proofs.lists.byte.Reads as byte-reads
-use Rattle.arrays.proofs.lists.put_byte.Reads as put-byte-reads
-use Rattle.arrays.proofs.lists.put_set.Reads as put-set-reads
-use Rattle.arrays.proofs.lists.set_at.Reads as set-at-reads
-use Rattle.nodes.proofs.both.Reads as both-reads
-use Rattle.nodes.proofs.first.Reads as first-reads
-use Rattle.nodes.proofs.without.Reads as without-reads
 
 abbrev Inv-loop : tie.InvT-loop
 Inv-loop n offers takers rows₀ columns₀ at₀ to₀ e last k₀ rows columns at to k = Climb n offers takers rows₀ columns₀ at₀ to₀ rows columns at to e last k
@@ -21,155 +13,117 @@ Inv-loop n offers takers rows₀ columns₀ at₀ to₀ e last k₀ rows columns
 abbrev μ-loop : tie.MeasureT-loop
 μ-loop n offers takers rows₀ columns₀ at₀ to₀ e last k₀ rows columns at to k = 2 * weight n rows columns last + k
 
--- src/climb.rt:21:5
 put-byte-requires : tie.Need-put-byte-requires Inv-loop μ-loop
 put-byte-requires c κs = (omega (arith, c .before .before .before .before .before .before .before .pre .lists .tos, c .before .before .before .before .before .before .before .pre .lists .few), omega (arith, c .before .before .before .before .before .before .before .pre .column, c .before .before .before .before .before .before .before .pre .lists .layers .nodes))
 
--- src/climb.rt:23:5
 loop-holds : tie.Need-loop-holds Inv-loop μ-loop
 loop-holds c = rw (c .before .before .put-byte .ensures) (climb-start (c .before .before .before .before .before .before .before .before .before .before .pre))
 
--- src/climb.rt:24:13
 byte-requires : tie.Need-byte-requires Inv-loop μ-loop
 byte-requires c κs = fits-to (climb-lists (c .before .before .before .before .before .before .before .before .before .before .before .before .pre) (c .before .before .before .before .put-byte .kept .0)) (c .before .loop .inv)
 
--- src/climb.rt:25:42
 set-at-requires : tie.Need-set-at-requires Inv-loop μ-loop
 set-at-requires c κs = omega (arith, c .before .before .before .before .before .before .before .before .before .before .before .before .before .pre .offered, c .byte .ensures, here (climb-lists (c .before .before .before .before .before .before .before .before .before .before .before .before .before .pre) (c .before .before .before .before .before .put-byte .kept .0)) (c .before .before .loop .inv))
 
--- src/climb.rt:25:68
 set-at-requires-2 : tie.Need-set-at-requires-2 Inv-loop μ-loop
 set-at-requires-2 c κs = fits-rows (climb-lists (c .before .before .before .before .before .before .before .before .before .before .before .before .before .before .before .pre) (c .before .before .before .before .before .before .before .put-byte .kept .0)) (c .before .before .before .before .loop .inv)
 
--- src/climb.rt:25:30
 both-requires : tie.Need-both-requires Inv-loop μ-loop
 both-requires c κs = tt
 
--- src/climb.rt:25:13
 first-requires : tie.Need-first-requires Inv-loop μ-loop
 first-requires c κs = tt
 
--- src/climb.rt:27:55
 set-at-requires-3 : tie.Need-set-at-requires-3 Inv-loop μ-loop
 set-at-requires-3 c κs = fits-columns (climb-lists (c .before .before .before .before .before .before .before .before .before .before .before .before .before .before .before .before .before .before .before .before .before .pre) (c .before .before .before .before .before .before .before .before .before .before .before .before .before .put-byte .kept .0)) (c .before .before .before .before .before .before .before .before .before .before .loop .inv)
 
--- src/climb.rt:27:40
 without-requires : tie.Need-without-requires Inv-loop μ-loop
 without-requires c κs = omega (arith, c .before .before .before .before .before .before .before .before .before .byte .ensures, here (climb-lists (c .before .before .before .before .before .before .before .before .before .before .before .before .before .before .before .before .before .before .before .before .before .before .pre) (c .before .before .before .before .before .before .before .before .before .before .before .before .before .before .put-byte .kept .0)) (c .before .before .before .before .before .before .before .before .before .before .before .loop .inv), c .before .before .before .before .before .before .before .before .before .before .before .before .before .before .before .before .before .before .before .before .before .before .pre .lists .layers .nodes)
 
--- src/climb.rt:27:13
 put-set-requires : tie.Need-put-set-requires Inv-loop μ-loop
 put-set-requires c κs = fits-columns (climb-lists (c .before .before .before .before .before .before .before .before .before .before .before .before .before .before .before .before .before .before .before .before .before .before .before .pre) (c .before .before .before .before .before .before .before .before .before .before .before .before .before .before .before .put-byte .kept .0)) (c .before .before .before .before .before .before .before .before .before .before .before .before .loop .inv)
 
--- src/climb.rt:29:17
 same-length : tie.Need-same-length Inv-loop μ-loop
 same-length c = c .before .before .before .before .before .before .before .before .before .before .before .before .before .before .before .before .loop .inv .rows-len
 
--- src/climb.rt:29:17
 same-length-2 : tie.Need-same-length-2 Inv-loop μ-loop
 same-length-2 c = c .before .before .before .put-set .kept .0 ∙ c .before .before .before .before .before .before .before .before .before .before .before .before .before .before .before .before .loop .inv .columns-len
 
--- src/climb.rt:29:17
 same-length-3 : tie.Need-same-length-3 Inv-loop μ-loop
 same-length-3 c = c .before .before .before .before .before .before .before .before .before .before .before .before .before .before .before .before .loop .inv .at-len
 
--- src/climb.rt:29:17
 same-length-4 : tie.Need-same-length-4 Inv-loop μ-loop
 same-length-4 c = c .before .before .before .before .before .before .before .before .before .before .before .before .before .before .before .before .loop .inv .to-len ∙ c .before .before .before .before .before .before .before .before .before .before .before .before .before .before .before .before .before .before .before .put-byte .kept .0
 
--- src/climb.rt:29:17
 returns : tie.Need-returns Inv-loop μ-loop
 returns c = rw (c .before .before .before .put-set .ensures) (climb-none (climb-lists (c .before .before .before .before .before .before .before .before .before .before .before .before .before .before .before .before .before .before .before .before .before .before .before .before .before .before .before .pre) (c .before .before .before .before .before .before .before .before .before .before .before .before .before .before .before .before .before .before .before .put-byte .kept .0)) (c .before .before .before .before .before .before .before .before .before .before .before .before .before .before .before .before .loop .inv) (rw (c .before .before .before .before .before .before .before .before .before .before .before .before .before .set-at .ensures, c .before .before .before .before .before .before .before .before .before .before .before .set-at2 .ensures, c .before .before .before .before .before .before .before .before .before .before .before .before .before .before .byte .ensures .0) at (c .before .before .before .before .before .before .before .before .before .before .both .ensures)) (c .before .before .before .before .before .before .before .before .before .first .ensures) (c .before .before .before .before .before .before .before .before .if1 .taken) (rw (c .before .before .before .before .before .set-at3 .ensures, c .before .before .before .before .before .before .before .before .before .before .before .before .before .before .byte .ensures .0) at (c .before .before .before .before .without .ensures)))
 
--- src/climb.rt:31:13
 add-k : tie.Need-add-k Inv-loop μ-loop
 add-k c = omega (arith, c .if2 .left, c .before .before .before .before .before .before .before .before .before .before .before .before .before .before .before .before .before .before .before .before .before .before .before .before .before .before .before .pre .lists .few, c .before .before .before .before .before .before .before .before .before .before .before .before .before .before .before .before .before .before .before .before .before .before .before .before .before .before .before .pre .lists .layers .nodes)
 
--- src/climb.rt:23:5
 loop-less : tie.Need-loop-less Inv-loop μ-loop
 loop-less c = rw (c .before .before .before .put-set .ensures) (omega (arith, column-falls (climb-lists (c .before .before .before .before .before .before .before .before .before .before .before .before .before .before .before .before .before .before .before .before .before .before .before .before .before .before .before .pre) (c .before .before .before .before .before .before .before .before .before .before .before .before .before .before .before .before .before .before .before .put-byte .kept .0)) (c .before .before .before .before .before .before .before .before .before .before .before .before .before .before .before .before .loop .inv) (rw (c .before .before .before .before .before .before .before .before .before .before .before .before .before .set-at .ensures, c .before .before .before .before .before .before .before .before .before .before .before .set-at2 .ensures, c .before .before .before .before .before .before .before .before .before .before .before .before .before .before .byte .ensures .0) at (c .before .before .before .before .before .before .before .before .before .before .both .ensures)) (c .before .before .before .before .before .before .before .before .before .first .ensures) (c .before .before .before .before .before .before .before .before .if1 .taken) (rw (c .before .before .before .before .before .set-at3 .ensures, c .before .before .before .before .before .before .before .before .before .before .before .before .before .before .byte .ensures .0) at (c .before .before .before .before .without .ensures))))
 
--- src/climb.rt:23:5
 loop-again : tie.Need-loop-again Inv-loop μ-loop
 loop-again c = rw (c .before .before .before .put-set .ensures) (climb-down (climb-lists (c .before .before .before .before .before .before .before .before .before .before .before .before .before .before .before .before .before .before .before .before .before .before .before .before .before .before .before .pre) (c .before .before .before .before .before .before .before .before .before .before .before .before .before .before .before .before .before .before .before .put-byte .kept .0)) (c .before .before .before .before .before .before .before .before .before .before .before .before .before .before .before .before .loop .inv) (rw (c .before .before .before .before .before .before .before .before .before .before .before .before .before .set-at .ensures, c .before .before .before .before .before .before .before .before .before .before .before .set-at2 .ensures, c .before .before .before .before .before .before .before .before .before .before .before .before .before .before .byte .ensures .0) at (c .before .before .before .before .before .before .before .before .before .before .both .ensures)) (c .before .before .before .before .before .before .before .before .before .first .ensures) (c .before .before .before .before .before .before .before .before .if1 .taken) (rw (c .before .before .before .before .before .set-at3 .ensures, c .before .before .before .before .before .before .before .before .before .before .before .before .before .before .byte .ensures .0) at (c .before .before .before .before .without .ensures)) (c .if2 .left))
 
--- src/climb.rt:34:9
 put-byte-requires-2 : tie.Need-put-byte-requires-2 Inv-loop μ-loop
 put-byte-requires-2 c κs = (fits-at (climb-lists (c .before .before .before .before .before .before .before .before .before .before .before .before .before .before .before .before .before .before .before .before .pre) (c .before .before .before .before .before .before .before .before .before .before .before .before .put-byte .kept .0)) (c .before .before .before .before .before .before .before .before .before .loop .inv), omega (arith, c .before .if1 .left, c .before .before .before .before .before .before .before .before .before .before .before .before .before .before .before .before .before .before .before .before .pre .lists .layers .nodes))
 
--- src/climb.rt:36:13
 same-length-5 : tie.Need-same-length-5 Inv-loop μ-loop
 same-length-5 c = c .before .before .before .before .before .before .before .before .before .before .before .before .before .loop .inv .rows-len
 
--- src/climb.rt:36:13
 same-length-6 : tie.Need-same-length-6 Inv-loop μ-loop
 same-length-6 c = c .before .before .before .before .before .before .before .before .before .before .before .before .before .loop .inv .columns-len
 
--- src/climb.rt:36:13
 same-length-7 : tie.Need-same-length-7 Inv-loop μ-loop
 same-length-7 c = c .before .before .before .put-byte2 .kept .0 ∙ c .before .before .before .before .before .before .before .before .before .before .before .before .before .loop .inv .at-len
 
--- src/climb.rt:36:13
 same-length-8 : tie.Need-same-length-8 Inv-loop μ-loop
 same-length-8 c = c .before .before .before .before .before .before .before .before .before .before .before .before .before .loop .inv .to-len ∙ c .before .before .before .before .before .before .before .before .before .before .before .before .before .before .before .before .put-byte .kept .0
 
--- src/climb.rt:36:13
 returns-2 : tie.Need-returns-2 Inv-loop μ-loop
 returns-2 c = rw (c .before .before .before .put-byte2 .ensures) (climb-end (climb-lists (c .before .before .before .before .before .before .before .before .before .before .before .before .before .before .before .before .before .before .before .before .before .before .before .before .pre) (c .before .before .before .before .before .before .before .before .before .before .before .before .before .before .before .before .put-byte .kept .0)) (c .before .before .before .before .before .before .before .before .before .before .before .before .before .loop .inv) (rw (c .before .before .before .before .before .before .before .before .before .before .set-at .ensures, c .before .before .before .before .before .before .before .before .set-at2 .ensures, c .before .before .before .before .before .before .before .before .before .before .before .byte .ensures .0) at (c .before .before .before .before .before .before .before .both .ensures)) (c .before .before .before .before .before .before .first .ensures) (c .before .before .before .before .before .if1 .left) (c .if3 .taken))
 
--- src/climb.rt:38:42
 set-at-requires-4 : tie.Need-set-at-requires-4 Inv-loop μ-loop
 set-at-requires-4 c κs = omega (arith, c .before .before .before .before .before .before .before .before .before .before .before .before .before .before .before .before .before .before .before .before .before .before .before .before .pre .taken, c .before .before .before .before .before .if1 .left)
 
--- src/climb.rt:38:91
 sub-set-at : tie.Need-sub-set-at Inv-loop μ-loop
 sub-set-at c = omega (arith, c .before .before .if3 .left)
 
--- src/climb.rt:38:68
 set-at-requires-5 : tie.Need-set-at-requires-5 Inv-loop μ-loop
 set-at-requires-5 c κs = omega (arith, fits-columns (climb-lists (c .before .before .before .before .before .before .before .before .before .before .before .before .before .before .before .before .before .before .before .before .before .before .before .before .before .before .pre) (c .before .before .before .before .before .before .before .before .before .before .before .before .before .before .before .before .before .before .put-byte .kept .0)) (c .before .before .before .before .before .before .before .before .before .before .before .before .before .before .before .loop .inv))
 
--- src/climb.rt:38:30
 both-requires-2 : tie.Need-both-requires-2 Inv-loop μ-loop
 both-requires-2 c κs = tt
 
--- src/climb.rt:38:13
 first-requires-2 : tie.Need-first-requires-2 Inv-loop μ-loop
 first-requires-2 c κs = tt
 
--- src/climb.rt:40:52
 set-at-requires-6 : tie.Need-set-at-requires-6 Inv-loop μ-loop
 set-at-requires-6 c κs = fits-rows (climb-lists (c .before .before .before .before .before .before .before .before .before .before .before .before .before .before .before .before .before .before .before .before .before .before .before .before .before .before .before .before .before .before .before .before .pre) (c .before .before .before .before .before .before .before .before .before .before .before .before .before .before .before .before .before .before .before .before .before .before .before .before .put-byte .kept .0)) (c .before .before .before .before .before .before .before .before .before .before .before .before .before .before .before .before .before .before .before .before .before .loop .inv)
 
--- src/climb.rt:40:37
 without-requires-2 : tie.Need-without-requires-2 Inv-loop μ-loop
 without-requires-2 c κs = omega (arith, c .before .before .before .before .before .before .before .before .before .before .before .before .before .before .if1 .left, c .before .before .before .before .before .before .before .before .before .before .before .before .before .before .before .before .before .before .before .before .before .before .before .before .before .before .before .before .before .before .before .before .before .pre .lists .layers .nodes)
 
--- src/climb.rt:40:13
 put-set-requires-2 : tie.Need-put-set-requires-2 Inv-loop μ-loop
 put-set-requires-2 c κs = fits-rows (climb-lists (c .before .before .before .before .before .before .before .before .before .before .before .before .before .before .before .before .before .before .before .before .before .before .before .before .before .before .before .before .before .before .before .before .before .before .pre) (c .before .before .before .before .before .before .before .before .before .before .before .before .before .before .before .before .before .before .before .before .before .before .before .before .before .before .put-byte .kept .0)) (c .before .before .before .before .before .before .before .before .before .before .before .before .before .before .before .before .before .before .before .before .before .before .before .loop .inv)
 
--- src/climb.rt:23:5
 loop-less-2 : tie.Need-loop-less-2 Inv-loop μ-loop
 loop-less-2 c = rw (c .before .before .put-set2 .ensures) (omega (arith, row-falls (climb-lists (c .before .before .before .before .before .before .before .before .before .before .before .before .before .before .before .before .before .before .before .before .before .before .before .before .before .before .before .before .before .before .before .before .before .before .before .before .before .pre) (c .before .before .before .before .before .before .before .before .before .before .before .before .before .before .before .before .before .before .before .before .before .before .before .before .before .before .before .before .before .put-byte .kept .0)) (c .before .before .before .before .before .before .before .before .before .before .before .before .before .before .before .before .before .before .before .before .before .before .before .before .before .before .loop .inv) (rw (c .before .before .before .before .before .before .before .before .before .before .before .before .before .before .before .before .before .before .before .before .before .before .before .set-at .ensures, c .before .before .before .before .before .before .before .before .before .before .before .before .before .before .before .before .before .before .before .before .before .set-at2 .ensures, c .before .before .before .before .before .before .before .before .before .before .before .before .before .before .before .before .before .before .before .before .before .before .before .before .byte .ensures .0) at (c .before .before .before .before .before .before .before .before .before .before .before .before .before .before .before .before .before .before .before .before .both .ensures)) (c .before .before .before .before .before .before .before .before .before .before .before .before .before .before .before .before .before .before .before .first .ensures) (c .before .before .before .before .before .before .before .before .before .before .before .before .before .before .before .before .before .before .if1 .left) (c .before .before .before .before .before .before .before .before .before .before .before .before .before .before .before .before .before .before .before .before .before .before .before .before .before .before .loop .k - 1) (omega (arith, c .before .before .before .before .before .before .before .before .before .before .before .before .before .if3 .left)) (rw (c .before .before .before .before .before .before .before .before .before .before .before .before .set-at4 .ensures, c .before .before .before .before .before .before .before .before .before .before .set-at5 .ensures) at (c .before .before .before .before .before .before .before .before .before .both2 .ensures)) (c .before .before .before .before .before .before .before .before .first2 .ensures) (c .before .before .before .before .before .before .before .if4 .taken) (rw (c .before .before .before .before .set-at6 .ensures) at (c .before .before .before .without2 .ensures))))
 
--- src/climb.rt:23:5
 loop-again-2 : tie.Need-loop-again-2 Inv-loop μ-loop
 loop-again-2 c = rw (c .before .before .put-set2 .ensures, c .before .before .before .before .before .before .before .before .before .before .before .before .before .before .before .before .put-byte2 .ensures) (climb-beside (climb-lists (c .before .before .before .before .before .before .before .before .before .before .before .before .before .before .before .before .before .before .before .before .before .before .before .before .before .before .before .before .before .before .before .before .before .before .before .before .before .pre) (c .before .before .before .before .before .before .before .before .before .before .before .before .before .before .before .before .before .before .before .before .before .before .before .before .before .before .before .before .before .put-byte .kept .0)) (c .before .before .before .before .before .before .before .before .before .before .before .before .before .before .before .before .before .before .before .before .before .before .before .before .before .before .loop .inv) (rw (c .before .before .before .before .before .before .before .before .before .before .before .before .before .before .before .before .before .before .before .before .before .before .before .set-at .ensures, c .before .before .before .before .before .before .before .before .before .before .before .before .before .before .before .before .before .before .before .before .before .set-at2 .ensures, c .before .before .before .before .before .before .before .before .before .before .before .before .before .before .before .before .before .before .before .before .before .before .before .before .byte .ensures .0) at (c .before .before .before .before .before .before .before .before .before .before .before .before .before .before .before .before .before .before .before .before .both .ensures)) (c .before .before .before .before .before .before .before .before .before .before .before .before .before .before .before .before .before .before .before .first .ensures) (c .before .before .before .before .before .before .before .before .before .before .before .before .before .before .before .before .before .before .if1 .left) (c .before .before .before .before .before .before .before .before .before .before .before .before .before .before .before .before .before .before .before .before .before .before .before .before .before .before .loop .k - 1) (omega (arith, c .before .before .before .before .before .before .before .before .before .before .before .before .before .if3 .left)) (rw (c .before .before .before .before .before .before .before .before .before .before .before .before .set-at4 .ensures, c .before .before .before .before .before .before .before .before .before .before .set-at5 .ensures) at (c .before .before .before .before .before .before .before .before .before .both2 .ensures)) (c .before .before .before .before .before .before .before .before .first2 .ensures) (c .before .before .before .before .before .before .before .if4 .taken) (rw (c .before .before .before .before .set-at6 .ensures) at (c .before .before .before .without2 .ensures)))
 
--- src/climb.rt:43:9
 sub-k : tie.Need-sub-k Inv-loop μ-loop
 sub-k c = omega (arith, c .before .before .before .before .before .before .if3 .left)
 
--- src/climb.rt:44:9
 put-byte-requires-3 : tie.Need-put-byte-requires-3 Inv-loop μ-loop
 put-byte-requires-3 c κs = (omega (arith, fits-to (climb-lists (c .before .before .before .before .before .before .before .before .before .before .before .before .before .before .before .before .before .before .before .before .before .before .before .before .before .before .before .before .before .before .before .pre) (c .before .before .before .before .before .before .before .before .before .before .before .before .before .before .before .before .before .before .before .before .before .before .before .put-byte .kept .0)) (c .before .before .before .before .before .before .before .before .before .before .before .before .before .before .before .before .before .before .before .before .loop .inv)), omega (arith, c .before .if4 .left, c .before .before .before .before .before .before .before .before .before .before .before .before .before .before .before .before .before .before .before .before .before .before .before .before .before .before .before .before .before .before .before .pre .lists .layers .nodes))
 
--- src/climb.rt:23:5
 loop-less-3 : tie.Need-loop-less-3 Inv-loop μ-loop
 loop-less-3 c = omega (arith, c .before .before .before .before .before .before .before .before .before .before .if3 .left)
 
--- src/climb.rt:23:5
 loop-again-3 : tie.Need-loop-again-3 Inv-loop μ-loop
 loop-again-3 c = rw (c .before .before .put-byte3 .ensures, c .before .before .before .before .before .before .before .before .before .before .before .before .before .put-byte2 .ensures) (climb-up (climb-lists (c .before .before .before .before .before .before .before .before .before .before .before .before .before .before .before .before .before .before .before .before .before .before .before .before .before .before .before .before .before .before .before .before .before .before .pre) (c .before .before .before .before .before .before .before .before .before .before .before .before .before .before .before .before .before .before .before .before .before .before .before .before .before .before .put-byte .kept .0)) (c .before .before .before .before .before .before .before .before .before .before .before .before .before .before .before .before .before .before .before .before .before .before .before .loop .inv) (rw (c .before .before .before .before .before .before .before .before .before .before .before .before .before .before .before .before .before .before .before .before .set-at .ensures, c .before .before .before .before .before .before .before .before .before .before .before .before .before .before .before .before .before .before .set-at2 .ensures, c .before .before .before .before .before .before .before .before .before .before .before .before .before .before .before .before .before .before .before .before .before .byte .ensures .0) at (c .before .before .before .before .before .before .before .before .before .before .before .before .before .before .before .before .before .both .ensures)) (c .before .before .before .before .before .before .before .before .before .before .before .before .before .before .before .before .first .ensures) (c .before .before .before .before .before .before .before .before .before .before .before .before .before .before .before .if1 .left) (c .before .before .before .before .before .before .before .before .before .before .before .before .before .before .before .before .before .before .before .before .before .before .before .loop .k - 1) (omega (arith, c .before .before .before .before .before .before .before .before .before .before .if3 .left)) (rw (c .before .before .before .before .before .before .before .before .before .set-at4 .ensures, c .before .before .before .before .before .before .before .set-at5 .ensures) at (c .before .before .before .before .before .before .both2 .ensures)) (c .before .before .before .before .before .first2 .ensures) (c .before .before .before .before .if4 .left))
 

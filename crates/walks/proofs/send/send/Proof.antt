@@ -1,14 +1,10 @@
+-- `walks::send::send` meets its contract: one column lacks what is sent, and the columns ahead are as they were. Assumes nothing.
 use native.Mathlib.Omega.{arith}
 use mathlib.Core.Path.{_≡_, refl, _∙_}
 use lib.ListN.{length}
 use Rattle.walks.proofs.Sends.{Sending, send-start, send-can, send-end, send-less, send-step}
 use Rattle.walks.proofs.send.send.Statement.{statement}
 use Rattle.walks.proofs.send.send.Tie as tie
-use Rattle.walks.proofs.send.send.Reads as reads
-use Rattle.walks.proofs.send.send.Lts as lts
-use Rattle.arrays.proofs.lists.byte.Reads as byte-reads
-use Rattle.growth.proofs.sides.less.Reads as less-reads
-use Rattle.growth.proofs.sides.more.Reads as more-reads
 
 abbrev Inv-loop : tie.InvT-loop
 Inv-loop n bound a₀ offers₀ takers₀ at to e last x k₀ a offers takers k = (length a ≡ length a₀) × (length offers ≡ length offers₀) × (length takers ≡ length takers₀) × Sending n bound a₀ a offers takers at to e last x k
@@ -16,55 +12,42 @@ Inv-loop n bound a₀ offers₀ takers₀ at to e last x k₀ a offers takers k 
 abbrev μ-loop : tie.MeasureT-loop
 μ-loop n bound a₀ offers₀ takers₀ at to e last x k₀ a offers takers k = k
 
--- src/send.rt:54:5
 loop-holds : tie.Need-loop-holds Inv-loop μ-loop
 loop-holds c = (refl, refl, refl, send-start (c .before .before .before .before .before .before .pre))
 
--- src/send.rt:55:13
 byte-requires : tie.Need-byte-requires Inv-loop μ-loop
 byte-requires c κs = omega (arith, c .before .before .before .before .before .before .before .pre .ats, c .loop .inv .3 .upto)
 
--- src/send.rt:56:46
 byte-requires-2 : tie.Need-byte-requires-2 Inv-loop μ-loop
 byte-requires-2 c κs = omega (arith, c .before .before .before .before .before .before .before .before .before .before .before .pre .tos, c .before .before .before .before .loop .inv .3 .upto)
 
--- src/send.rt:56:9
 more-requires : tie.Need-more-requires Inv-loop μ-loop
 more-requires c κs = (c .before .before .before .before .before .loop .inv .3 .sides, rw (c .before .before .before .before .byte .ensures .0, c .byte2 .ensures .0) (send-can (c .before .before .before .before .before .before .before .before .before .before .before .before .pre) (c .before .before .before .before .before .loop .inv .3)))
 
--- src/send.rt:58:13
 same-length : tie.Need-same-length Inv-loop μ-loop
 same-length c = c .before .before .before .before .before .before .before .more .kept .1 .1 .0 ∙ c .before .before .before .before .before .before .before .before .before .before .before .before .before .loop .inv .0
 
--- src/send.rt:58:13
 same-length-2 : tie.Need-same-length-2 Inv-loop μ-loop
 same-length-2 c = c .before .before .before .before .before .before .before .more .kept .1 .1 .1 .0 ∙ c .before .before .before .before .before .before .before .before .before .before .before .before .before .loop .inv .1
 
--- src/send.rt:58:13
 same-length-3 : tie.Need-same-length-3 Inv-loop μ-loop
 same-length-3 c = c .before .before .before .before .before .before .before .more .kept .1 .1 .1 .1 .0 ∙ c .before .before .before .before .before .before .before .before .before .before .before .before .before .loop .inv .2
 
--- src/send.rt:58:13
 returns : tie.Need-returns Inv-loop μ-loop
 returns c = send-end (c .before .before .before .before .before .before .before .before .before .before .before .before .before .before .before .before .before .before .before .before .pre) (c .before .before .before .before .before .before .before .before .before .before .before .before .before .loop .inv .3) (rw (c .before .before .before .before .before .before .before .before .before .before .before .before .byte .ensures .0, c .before .before .before .before .before .before .before .before .byte2 .ensures .0) at (c .before .before .before .before .before .before .before .more .ensures)) (c .if1 .taken)
 
--- src/send.rt:60:9
 sub-k : tie.Need-sub-k Inv-loop μ-loop
 sub-k c = omega (arith, c .if1 .left)
 
--- src/send.rt:61:39
 byte-requires-3 : tie.Need-byte-requires-3 Inv-loop μ-loop
 byte-requires-3 c κs = omega (arith, c .before .before .before .before .before .before .before .before .before .before .before .before .before .before .before .before .before .before .before .before .before .before .before .pre .tos, c .before .before .before .before .before .before .before .before .before .before .before .before .before .before .before .before .loop .inv .3 .upto)
 
--- src/send.rt:61:9
 less-requires : tie.Need-less-requires Inv-loop μ-loop
 less-requires c κs = ((c .before .before .before .before .before .before .before .before .before .before .before .more .ensures .sides .below .cells, c .before .before .before .before .before .before .before .before .before .before .before .more .ensures .sides .columns, c .before .before .before .before .before .before .before .before .before .before .before .more .ensures .sides .rows), rw (c .before .before .before .before .before .before .before .before .before .before .before .before .before .before .before .before .byte .ensures .0, c .byte3 .ensures .0) (send-less (c .before .before .before .before .before .before .before .before .before .before .before .before .before .before .before .before .before .before .before .before .before .before .before .before .pre) (c .before .before .before .before .before .before .before .before .before .before .before .before .before .before .before .before .before .loop .inv .3) (rw (c .before .before .before .before .before .before .before .before .before .before .before .before .before .before .before .before .byte .ensures .0, c .before .before .before .before .before .before .before .before .before .before .before .before .byte2 .ensures .0) at (c .before .before .before .before .before .before .before .before .before .before .before .more .ensures)) _ (omega (arith, c .before .before .before .before .if1 .left))))
 
--- src/send.rt:54:5
 loop-less : tie.Need-loop-less Inv-loop μ-loop
 loop-less c = omega (arith, c .before .before .before .before .before .before .before .before .before .before .before .if1 .left)
 
--- src/send.rt:54:5
 loop-again : tie.Need-loop-again Inv-loop μ-loop
 loop-again c = (c .before .before .before .before .before .before .less .kept .1 .0 ∙ c .before .before .before .before .before .before .before .before .before .before .before .before .before .before .before .before .before .before .more .kept .1 .1 .0 ∙ c .before .before .before .before .before .before .before .before .before .before .before .before .before .before .before .before .before .before .before .before .before .before .before .before .loop .inv .0, c .before .before .before .before .before .before .less .kept .1 .1 .0 ∙ c .before .before .before .before .before .before .before .before .before .before .before .before .before .before .before .before .before .before .more .kept .1 .1 .1 .0 ∙ c .before .before .before .before .before .before .before .before .before .before .before .before .before .before .before .before .before .before .before .before .before .before .before .before .loop .inv .1, c .before .before .before .before .before .before .less .kept .1 .1 .1 .0 ∙ c .before .before .before .before .before .before .before .before .before .before .before .before .before .before .before .before .before .before .more .kept .1 .1 .1 .1 .0 ∙ c .before .before .before .before .before .before .before .before .before .before .before .before .before .before .before .before .before .before .before .before .before .before .before .before .loop .inv .2, send-step (c .before .before .before .before .before .before .before .before .before .before .before .before .before .before .before .before .before .before .before .before .before .before .before .before .before .before .before .before .before .before .before .pre) (c .before .before .before .before .before .before .before .before .before .before .before .before .before .before .before .before .before .before .before .before .before .before .before .before .loop .inv .3) (rw (c .before .before .before .before .before .before .before .before .before .before .before .before .before .before .before .before .before .before .before .before .before .before .before .byte .ensures .0, c .before .before .before .before .before .before .before .before .before .before .before .before .before .before .before .before .before .before .before .byte2 .ensures .0) at (c .before .before .before .before .before .before .before .before .before .before .before .before .before .before .before .before .before .before .more .ensures)) _ (omega (arith, c .before .before .before .before .before .before .before .before .before .before .before .if1 .left)) (rw (c .before .before .before .before .before .before .before .before .before .before .before .before .before .before .before .before .before .before .before .before .before .before .before .byte .ensures .0, c .before .before .before .before .before .before .before .byte3 .ensures .0) at (c .before .before .before .before .before .before .less .ensures (c .before .before .before .before .before .before .before .before .before .before .before .before .before .before .before .before .before .before .before .before .before .before .before .before .before .before .before .before .before .before .before .args .bound .now) (c .before .before .before .before .before .before .before .before .before .before .before .before .before .before .before .before .before .before .more .ensures .sides))))
 

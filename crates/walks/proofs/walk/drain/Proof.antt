@@ -1,3 +1,4 @@
+-- `walks::walk::drain` meets its contract: something has gone, or the layers are those of the search. The rows' room and the nodes of the layers fall. Assumes nothing.
 use Prim.Native.Nat.{_+_}
 use native.Mathlib.Omega.{arith}
 use mathlib.Core.Path.{_≡_, refl, _∙_}
@@ -7,11 +8,6 @@ use Rattle.walks.specs.Paths.{weight}
 use Rattle.walks.proofs.WalkLaws.{Draining, drain-start, drain-walk, drain-step, drain-end, lists-again}
 use Rattle.walks.proofs.walk.drain.Statement.{statement}
 use Rattle.walks.proofs.walk.drain.Tie as tie
-use Rattle.walks.proofs.walk.drain.Reads as reads
-use Rattle.walks.proofs.walk.drain.Lts as lts
-use Rattle.arrays.proofs.lists.set_at.Reads as set-at-reads
-use Rattle.nodes.proofs.first.Reads as first-reads
-use Rattle.walks.proofs.walk.walk.Reads as walk-reads
 
 abbrev Inv-loop : tie.InvT-loop
 Inv-loop n bound a₀ room₀ offers₀ takers₀ rows₀ columns₀ at₀ to₀ last a room offers takers rows columns at to = (length a ≡ length a₀) × (length room ≡ length room₀) × (length offers ≡ length offers₀) × (length takers ≡ length takers₀) × (length rows ≡ length rows₀) × (length columns ≡ length columns₀) × (length at ≡ length at₀) × (length to ≡ length to₀) × Draining n bound a₀ room₀ a room offers takers rows columns at to last
@@ -19,63 +15,48 @@ Inv-loop n bound a₀ room₀ offers₀ takers₀ rows₀ columns₀ at₀ to₀
 abbrev μ-loop : tie.MeasureT-loop
 μ-loop n bound a₀ room₀ offers₀ takers₀ rows₀ columns₀ at₀ to₀ last a room offers takers rows columns at to = rowRoom n room + weight n rows columns last
 
--- src/walk.rt:84:5
 loop-holds : tie.Need-loop-holds Inv-loop μ-loop
 loop-holds c = (refl, refl, refl, refl, refl, refl, refl, refl, drain-start (c .before .before .before .before .before .before .before .before .before .pre))
 
--- src/walk.rt:85:30
 set-at-requires : tie.Need-set-at-requires Inv-loop μ-loop
 set-at-requires c κs = omega (arith, c .before .loop .inv .8 .lists .layers .others, c .before .loop .inv .8 .lists .few)
 
--- src/walk.rt:85:13
 first-requires : tie.Need-first-requires Inv-loop μ-loop
 first-requires c κs = tt
 
--- src/walk.rt:87:13
 same-length : tie.Need-same-length Inv-loop μ-loop
 same-length c = c .before .before .before .before .loop .inv .0
 
--- src/walk.rt:87:13
 same-length-2 : tie.Need-same-length-2 Inv-loop μ-loop
 same-length-2 c = c .before .before .before .before .loop .inv .1
 
--- src/walk.rt:87:13
 same-length-3 : tie.Need-same-length-3 Inv-loop μ-loop
 same-length-3 c = c .before .before .before .before .loop .inv .2
 
--- src/walk.rt:87:13
 same-length-4 : tie.Need-same-length-4 Inv-loop μ-loop
 same-length-4 c = c .before .before .before .before .loop .inv .3
 
--- src/walk.rt:87:13
 same-length-5 : tie.Need-same-length-5 Inv-loop μ-loop
 same-length-5 c = c .before .before .before .before .loop .inv .4
 
--- src/walk.rt:87:13
 same-length-6 : tie.Need-same-length-6 Inv-loop μ-loop
 same-length-6 c = c .before .before .before .before .loop .inv .5
 
--- src/walk.rt:87:13
 same-length-7 : tie.Need-same-length-7 Inv-loop μ-loop
 same-length-7 c = c .before .before .before .before .loop .inv .6
 
--- src/walk.rt:87:13
 same-length-8 : tie.Need-same-length-8 Inv-loop μ-loop
 same-length-8 c = c .before .before .before .before .loop .inv .7
 
--- src/walk.rt:87:13
 returns : tie.Need-returns Inv-loop μ-loop
 returns c = drain-end (c .before .before .before .before .loop .inv .8) (rw (c .before .before .set-at .ensures) at (c .before .first .ensures)) (c .if1 .taken)
 
--- src/walk.rt:89:9
 walk-requires : tie.Need-walk-requires Inv-loop μ-loop
 walk-requires c κs = drain-walk (c .before .before .before .before .before .before .before .before .before .before .before .before .loop .inv .8) (rw (c .before .before .before .before .before .before .before .before .before .before .set-at .ensures) at (c .before .before .before .before .before .before .before .before .before .first .ensures)) (omega (arith, c .before .before .before .before .before .before .before .before .before .before .before .before .before .before .before .before .before .before .before .before .before .before .pre .rooms, c .before .before .before .before .before .before .before .before .before .before .before .before .loop .inv .1)) (c .before .before .before .before .before .before .before .before .if1 .left)
 
--- src/walk.rt:84:5
 loop-less : tie.Need-loop-less Inv-loop μ-loop
 loop-less c = c .before .before .before .before .before .before .before .before .before .before .before .before .before .before .before .before .walk .ensures .falls
 
--- src/walk.rt:84:5
 loop-again : tie.Need-loop-again Inv-loop μ-loop
 loop-again c = (c .before .before .before .before .before .before .before .before .before .before .before .before .before .before .before .before .walk .kept .1 .1 .0 ∙ c .before .before .before .before .before .before .before .before .before .before .before .before .before .before .before .before .before .before .before .before .before .before .before .before .before .before .before .before .before .loop .inv .0, c .before .before .before .before .before .before .before .before .before .before .before .before .before .before .before .before .walk .kept .1 .1 .1 .0 ∙ c .before .before .before .before .before .before .before .before .before .before .before .before .before .before .before .before .before .before .before .before .before .before .before .before .before .before .before .before .before .loop .inv .1, c .before .before .before .before .before .before .before .before .before .before .before .before .before .before .before .before .walk .kept .1 .1 .1 .1 .0 ∙ c .before .before .before .before .before .before .before .before .before .before .before .before .before .before .before .before .before .before .before .before .before .before .before .before .before .before .before .before .before .loop .inv .2, c .before .before .before .before .before .before .before .before .before .before .before .before .before .before .before .before .walk .kept .1 .1 .1 .1 .1 .0 ∙ c .before .before .before .before .before .before .before .before .before .before .before .before .before .before .before .before .before .before .before .before .before .before .before .before .before .before .before .before .before .loop .inv .3, c .before .before .before .before .before .before .before .before .before .before .before .before .before .before .before .before .walk .kept .1 .1 .1 .1 .1 .1 .0 ∙ c .before .before .before .before .before .before .before .before .before .before .before .before .before .before .before .before .before .before .before .before .before .before .before .before .before .before .before .before .before .loop .inv .4, c .before .before .before .before .before .before .before .before .before .before .before .before .before .before .before .before .walk .kept .1 .1 .1 .1 .1 .1 .1 .0 ∙ c .before .before .before .before .before .before .before .before .before .before .before .before .before .before .before .before .before .before .before .before .before .before .before .before .before .before .before .before .before .loop .inv .5, c .before .before .before .before .before .before .before .before .before .before .before .before .before .before .before .before .walk .kept .1 .1 .1 .1 .1 .1 .1 .1 .0 ∙ c .before .before .before .before .before .before .before .before .before .before .before .before .before .before .before .before .before .before .before .before .before .before .before .before .before .before .before .before .before .loop .inv .6, c .before .before .before .before .before .before .before .before .before .before .before .before .before .before .before .before .walk .kept .1 .1 .1 .1 .1 .1 .1 .1 .1 .0 ∙ c .before .before .before .before .before .before .before .before .before .before .before .before .before .before .before .before .before .before .before .before .before .before .before .before .before .before .before .before .before .loop .inv .7, drain-step (c .before .before .before .before .before .before .before .before .before .before .before .before .before .before .before .before .before .before .before .before .before .before .before .before .before .before .before .before .before .loop .inv .8) (rw (c .before .before .before .before .before .before .before .before .before .before .before .before .before .before .before .before .before .before .before .before .before .before .before .before .before .before .before .set-at .ensures) at (c .before .before .before .before .before .before .before .before .before .before .before .before .before .before .before .before .before .before .before .before .before .before .before .before .before .before .first .ensures)) (c .before .before .before .before .before .before .before .before .before .before .before .before .before .before .before .before .walk .ensures) (lists-again (c .before .before .before .before .before .before .before .before .before .before .before .before .before .before .before .before .before .before .before .before .before .before .before .before .before .before .before .before .before .loop .inv .8 .lists) (c .before .before .before .before .before .before .before .before .before .before .before .before .before .before .before .before .walk .kept .1 .1 .1 .1 .1 .1 .0) (c .before .before .before .before .before .before .before .before .before .before .before .before .before .before .before .before .walk .kept .1 .1 .1 .1 .1 .1 .1 .0) (c .before .before .before .before .before .before .before .before .before .before .before .before .before .before .before .before .walk .kept .1 .1 .1 .1 .1 .1 .1 .1 .0) (c .before .before .before .before .before .before .before .before .before .before .before .before .before .before .before .before .walk .kept .1 .1 .1 .1 .1 .1 .1 .1 .1 .0)))
 

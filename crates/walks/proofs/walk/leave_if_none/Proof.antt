@@ -1,34 +1,23 @@
+-- `walks::walk::leave_if_none` meets its contract, whether something is left or nothing. Assumes nothing.
 use Rattle.walks.proofs.WalkLaws.{left-stays, left-leaves}
-use borrow.Author.Needs.{needs}
 use Rattle.walks.proofs.walk.leave_if_none.Statement.{statement}
 use Rattle.walks.proofs.walk.leave_if_none.Tie as tie
-use Rattle.walks.proofs.walk.leave_if_none.Reads as reads
-use Rattle.walks.proofs.walk.leave_if_none.Lts as lts
-use Rattle.arrays.proofs.lists.put_set.Reads as put-set-reads
-use Rattle.arrays.proofs.lists.set_at.Reads as set-at-reads
-use Rattle.nodes.proofs.without.Reads as without-reads
 
--- src/walk.rt:13:9
 returns : tie.Need-returns
 returns c = left-stays (c .if1 .taken)
 
--- src/walk.rt:15:44
 set-at-requires : tie.Need-set-at-requires
 set-at-requires c κs = c .before .before .before .before .pre .0
 
--- src/walk.rt:15:29
 without-requires : tie.Need-without-requires
 without-requires c κs = c .before .before .before .before .before .pre .1
 
--- src/walk.rt:15:5
 put-set-requires : tie.Need-put-set-requires
 put-set-requires c κs = c .before .before .before .before .before .before .pre .0
 
--- src/walk.rt:8:1
 same-length : tie.Need-same-length
 same-length c = c .before .before .put-set .kept .0
 
--- src/walk.rt:8:1
 returns-2 : tie.Need-returns-2
 returns-2 c = rw (c .before .before .put-set .ensures) (left-leaves (c .before .before .before .before .before .before .before .before .before .pre .0) (rw (c .before .before .before .before .set-at .ensures) at (c .before .before .before .without .ensures)))
 

@@ -1,91 +1,66 @@
-use mathlib.Core.Path.{_∙_}
-use lib.ListN.{length-set}
+-- `walks::walk::spend` meets its contract: the two rooms have places of their own. Assumes nothing.
 use native.Mathlib.Omega.{arith}
 use Rattle.walks.proofs.WalkLaws.{spent-law, rest-fits, rest-most, spent-len, spent-fits}
-use borrow.Author.Needs.{needs}
 use Rattle.walks.proofs.walk.spend.Statement.{statement}
 use Rattle.walks.proofs.walk.spend.Tie as tie
-use Rattle.walks.proofs.walk.spend.Reads as reads
-use Rattle.walks.proofs.walk.spend.Lts as lts
-use Rattle.walks.proofs.walk.leave_if_none.Reads as leave-if-none-reads
 
--- src/walk.rt:32:5
 mul-room : tie.Need-mul-room
 mul-room c = omega (arith, c .before .before .before .pre .row, c .before .before .before .pre .few)
 
--- src/walk.rt:32:5
 slice-read-room : tie.Need-slice-read-room
 slice-read-room c = omega (arith, c .before .before .before .before .pre .row, c .before .before .before .before .pre .rooms)
 
--- src/walk.rt:32:5
 sub-room : tie.Need-sub-room
 sub-room c = omega (arith, c .before .before .before .before .pre .start)
 
--- src/walk.rt:32:5
 slice-write-room : tie.Need-slice-write-room
 slice-write-room c = omega (arith, c .before .before .before .before .pre .row, c .before .before .before .before .pre .rooms)
 
--- src/walk.rt:33:10
 add-room : tie.Need-add-room
 add-room c = omega (arith, c .before .before .before .before .pre .column, c .before .before .before .before .pre .few)
 
--- src/walk.rt:33:5
 mul-room-2 : tie.Need-mul-room-2
 mul-room-2 c = omega (arith, c .before .before .before .before .pre .column, c .before .before .before .before .pre .few)
 
--- src/walk.rt:33:5
 slice-read-room-2 : tie.Need-slice-read-room-2
 slice-read-room-2 c = rest-fits (c .before .before .before .before .before .pre)
 
--- src/walk.rt:33:5
 sub-room-2 : tie.Need-sub-room-2
 sub-room-2 c = rest-most (c .before .before .before .before .before .pre)
 
--- src/walk.rt:33:5
 slice-write-room-2 : tie.Need-slice-write-room-2
 slice-write-room-2 c = rest-fits (c .before .before .before .before .before .pre)
 
--- src/walk.rt:34:31
 mul-leave-if-none : tie.Need-mul-leave-if-none
 mul-leave-if-none c = omega (arith, c .before .before .before .before .before .before .pre .row, c .before .before .before .before .before .before .pre .few)
 
--- src/walk.rt:34:31
 slice-read-leave-if-none : tie.Need-slice-read-leave-if-none
 slice-read-leave-if-none c = spent-fits (c .before .before .before .before .before .before .before .pre) (omega (arith, c .before .before .before .before .before .before .before .pre .row))
 
--- src/walk.rt:34:5
 leave-if-none-requires : tie.Need-leave-if-none-requires
 leave-if-none-requires c κs = (c .before .before .before .before .before .before .before .pre .layers, omega (arith, c .before .before .before .before .before .before .before .pre .row, c .before .before .before .before .before .before .before .pre .few))
 
--- src/walk.rt:35:42
 add-leave-if-none : tie.Need-add-leave-if-none
 add-leave-if-none c = omega (arith, c .before .before .before .before .before .before .before .before .before .before .before .pre .column, c .before .before .before .before .before .before .before .before .before .before .before .pre .few)
 
--- src/walk.rt:35:37
 mul-leave-if-none-2 : tie.Need-mul-leave-if-none-2
 mul-leave-if-none-2 c = omega (arith, c .before .before .before .before .before .before .before .before .before .before .before .pre .column, c .before .before .before .before .before .before .before .before .before .before .before .pre .few)
 
--- src/walk.rt:35:37
 slice-read-leave-if-none-2 : tie.Need-slice-read-leave-if-none-2
 slice-read-leave-if-none-2 c = spent-fits (c .before .before .before .before .before .before .before .before .before .before .before .before .pre) (omega (arith, c .before .before .before .before .before .before .before .before .before .before .before .before .pre .column))
 
--- src/walk.rt:35:5
 leave-if-none-requires-2 : tie.Need-leave-if-none-requires-2
 leave-if-none-requires-2 c κs = (c .before .before .before .before .before .before .before .before .before .before .before .before .pre .others, omega (arith, c .before .before .before .before .before .before .before .before .before .before .before .before .pre .column, c .before .before .before .before .before .before .before .before .before .before .before .before .pre .few))
 
--- src/walk.rt:19:1
 same-length : tie.Need-same-length
 same-length c = spent-len (c .before .before .before .before .before .before .before .before .before .before .before .before .before .before .before .pre)
 
--- src/walk.rt:19:1
 same-length-2 : tie.Need-same-length-2
 same-length-2 c = c .before .before .before .before .before .before .before .leave-if-none .kept .0
 
--- src/walk.rt:19:1
 same-length-3 : tie.Need-same-length-3
 same-length-3 c = c .before .before .leave-if-none2 .kept .0
 
--- src/walk.rt:19:1
 returns : tie.Need-returns
 returns c = spent-law (c .before .before .before .before .before .before .before .before .before .before .before .before .before .before .before .pre) (c .before .before .before .before .before .before .before .leave-if-none .ensures) (c .before .before .leave-if-none2 .ensures)
 
