@@ -42,10 +42,10 @@ smaller-requires : tie.Need-smaller-requires Inv-loop μ-loop
 smaller-requires c κs = tt
 
 mul-smaller : tie.Need-mul-smaller Inv-loop μ-loop
-mul-smaller c = omega (arith, c .before .before .before .before .before .byte .ensures .1)
+mul-smaller c = omega (arith, c .before .before .before .before .before .byte .ensures .1, c .before .before .before .before .byte2 .ensures .1)
 
 shared-slice-read-smaller : tie.Need-shared-slice-read-smaller Inv-loop μ-loop
-shared-slice-read-smaller c = omega (arith, c .before .before .before .before .before .before .byte .ensures .0, c .before .before .before .before .before .before .before .before .before .before .before .before .before .before .pre .path .row (c .before .before .before .before .before .before .before .loop .k) (c .before .before .before .before .before .before .before .loop .inv .upto), c .before .before .before .before .before .before .before .before .before .before .before .before .before .before .pre .rooms)
+shared-slice-read-smaller c = omega (arith, c .before .before .before .before .before .before .byte .ensures .0, c .before .before .before .before .before .byte2 .ensures .0, c .before .before .before .before .before .before .before .before .before .before .before .before .before .before .pre .path .row (c .before .before .before .before .before .before .before .loop .k) (c .before .before .before .before .before .before .before .loop .inv .upto), c .before .before .before .before .before .before .before .before .before .before .before .before .before .before .pre .path .column (c .before .before .before .before .before .before .before .loop .k) (c .before .before .before .before .before .before .before .loop .inv .upto), c .before .before .before .before .before .before .before .before .before .before .before .before .before .before .pre .rooms)
 
 smaller-requires-2 : tie.Need-smaller-requires-2 Inv-loop μ-loop
 smaller-requires-2 c κs = tt

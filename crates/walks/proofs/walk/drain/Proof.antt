@@ -19,7 +19,7 @@ loop-holds : tie.Need-loop-holds Inv-loop μ-loop
 loop-holds c = (refl, refl, refl, refl, refl, refl, refl, refl, drain-start (c .before .before .before .before .before .before .before .before .before .pre))
 
 set-at-requires : tie.Need-set-at-requires Inv-loop μ-loop
-set-at-requires c κs = omega (arith, c .before .loop .inv .8 .lists .layers .others, c .before .loop .inv .8 .lists .few)
+set-at-requires c κs = omega (arith, c .before .loop .inv .8 .lists .layers, c .before .loop .inv .8 .lists .few)
 
 first-requires : tie.Need-first-requires Inv-loop μ-loop
 first-requires c κs = tt
