@@ -1,7 +1,7 @@
 // The entry `slacks`: what is left of the frame on each line.
 use star::checks::sizes;
 use star::lines::first_above;
-use star::lines::line_sum;
+use star::lines::line_sums;
 use star::lines::slack;
 use star::refusals::Refusal;
 use star::refusals::Verdict;
@@ -13,16 +13,18 @@ ghost use Rattle.star.specs.Tables.{Square, Demands, Capacities};
 ghost use Rattle.star.specs.Lines.{slack};
 ghost use Rattle.slacks.specs.Slacks.{slacksVerdict, SlacksResult};
 
-// Writes the slack of each line, given the capacity of each.
+// Writes the slack of each line, given the capacity of each: first the sums of all lines are made.
 fn fill(n: usize, cap: &[u32], demand: &[u32], table: &mut [i32])
     requires { ⌜ (Square n (now demand)) × (Demands n (now demand)) ⌝ }
     requires { ⌜ (Capacities n (now cap)) × (2 * n ≤ length (now table)) ⌝ }
     ensures { λ _. ⌜ now (table .exit) ≡ written (2 * n) (tab (2 * n) (slack n (now (cap .entry)) (now (demand .entry)))) (now (table .entry)) ⌝ }
 {
+    let mut sums = [0u32; 128];
+    line_sums(n, demand, &mut sums);
     let lines = 2 * n;
     let mut line = 0;
     while line < lines {
-        table[line] = slack(cap[line], line_sum(n, demand, line));
+        table[line] = slack(cap[line], sums[line]);
         line += 1;
     }
 }
