@@ -6,11 +6,7 @@ use growth::fill::fill;
 use growth::sides::roomy;
 use layers::mark;
 use star::tables::clear;
-use star::tables::copy;
-ghost use Prim.Native.Nat.{_*_, _≤_};
-ghost use lib.ListN.{length};
-ghost use Rattle.flow.specs.Flows.{Feasible, Closed};
-ghost use Rattle.flow.specs.Certified.{Bounded, Certified};
+ghost use Rattle.flow.specs.Certified.{Bounded, Finished, Certified, RoomLeft};
 ghost use Rattle.flow.specs.Grows.{Empty, Grown};
 
 // From a matrix of zeros, with lists for the sets: at first every row can give where its bound is at least 1, and no column takes.
@@ -42,39 +38,29 @@ fn largest_within(n: usize, bound: &[u32], a: &mut [u32], room: &mut [u32], mark
     largest_from(n, bound, a, room, marks);
 }
 
-// What `largest` does, on a matrix and marks of just the cells needed, with a table for the rooms.
-fn largest_on(
-    n: usize,
-    bound: &[u32],
-    limit: &[u32],
-    a: &mut [u32],
-    room: &mut [u32],
-    marks: &mut [u8],
-)
-    requires { ⌜ Bounded n (now bound) (now limit) (now a) (now marks) ⌝ }
-    requires { ⌜ 2 * n ≤ length (now room) ⌝ }
-    ensures { λ _. ⌜ Feasible n (now (bound .entry)) (now (limit .entry)) (now (a .exit)) × Closed n (now (bound .entry)) (now (limit .entry)) (now (a .exit)) (now (marks .exit)) ⌝ }
+// What `largest` does, on tables of just the cells needed.
+fn largest_on(n: usize, bound: &[u32], room: &mut [u32], a: &mut [u32], marks: &mut [u8])
+    requires { ⌜ Bounded n (now bound) (now room) (now a) (now marks) ⌝ }
+    ensures { λ _. ⌜ Finished n (now (bound .entry)) (now (room .entry)) (now (a .exit)) (now (room .exit)) (now (marks .exit)) ⌝ }
 {
     clear(n, a);
-    copy(limit, room, 2 * n);
     largest_within(n, bound, a, room, marks);
 }
 
-// Of all matrices that are at most `bound` at each cell and whose line sums are at most `limit`, one with the greatest total, in `a`; and marks
-// that prove it: no matrix exceeds their cut, and this one meets it. What their first n * n and 2n cells held before does not matter; further cells stay as they are.
-pub fn largest(n: usize, bound: &[u32], limit: &[u32], a: &mut [u32], marks: &mut [u8])
-    requires { ⌜ Bounded n (now bound) (now limit) (now a) (now marks) ⌝ }
-    ensures { λ _. ⌜ Certified n (now (bound .entry)) (now (limit .entry)) (now (a .entry)) (now (marks .entry)) (now (a .exit)) (now (marks .exit)) ⌝ }
+// Of all matrices that are at most `bound` at each cell and whose line sums are at most the limits, one with the greatest total, in `a`; and marks
+// that prove it: no matrix exceeds their cut, and this one meets it. `room` holds the limits, which give way to what each line may still take. What
+// the first n * n and 2n cells of `a` and `marks` held before does not matter; further cells of all three stay as they are.
+pub fn largest(n: usize, bound: &[u32], room: &mut [u32], a: &mut [u32], marks: &mut [u8])
+    requires { ⌜ Bounded n (now bound) (now room) (now a) (now marks) ⌝ }
+    ensures { λ _. ⌜ Certified n (now (bound .entry)) (now (room .entry)) (now (a .entry)) (now (marks .entry)) (now (a .exit)) (now (marks .exit)) × RoomLeft n (now (room .entry)) (now (a .exit)) (now (room .exit)) ⌝ }
 {
-    let mut room = [0u32; 128];
     let cells = n * n;
     let lines = 2 * n;
     largest_on(
         n,
         bound,
-        limit,
+        &mut room[..lines],
         &mut a[..cells],
-        &mut room,
         &mut marks[..lines],
     );
 }

@@ -34,5 +34,5 @@ pub fn withdraw(n: usize, cap: &[u32], demand: &[u32], withdrawn: &mut [u32], ma
     let lines = 2 * n;
     let mut limits = [0u32; 128];
     excesses(n, cap, demand, &mut limits);
-    largest(n, demand, &limits[..lines], withdrawn, marks);
+    largest(n, demand, &mut limits[..lines], withdrawn, marks);
 }

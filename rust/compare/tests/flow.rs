@@ -11,9 +11,13 @@ use second::matrix::Matrix;
 fn compared(random: &mut Random, n: usize, bound: &[u32], limit: &[u32]) -> Matrix {
     let before = Lent::new(&random.words(n * n + 3), 7);
     let marks_before = Lent::new(&random.bytes(2 * n + 3), 7);
+    let room_before = Lent::new(limit, 7);
     let (mut a, mut marks) = (before.clone(), marks_before.clone());
-    lab::largest(n, bound, limit, a.cells(), marks.cells());
+    let mut room = room_before.clone();
+    lab::largest(n, bound, room.cells(), a.cells(), marks.cells());
     assert!(a.changed_only(n * n, &before), "{bound:?} {limit:?}");
+    let room_kept = room.changed_only(2 * n, &room_before);
+    assert!(room_kept, "{bound:?} {limit:?}");
     let marks_kept = marks.changed_only(2 * n, &marks_before);
     assert!(marks_kept, "{bound:?} {limit:?}");
 
@@ -21,6 +25,10 @@ fn compared(random: &mut Random, n: usize, bound: &[u32], limit: &[u32]) -> Matr
     let (most, limits) = (Matrix::read(n, bound), wide(&limit[..2 * n]));
     assert!(a.is_below(&most), "{bound:?} {limit:?}");
     assert!(a.is_admissible(&limits), "{bound:?} {limit:?}");
+    for (line, &left) in wide(&room.cells()[..2 * n]).iter().enumerate() {
+        let whole = a.line_sum(line) + left;
+        assert_eq!(whole, limits[line], "{bound:?} {limit:?}");
+    }
     let closed = cut(&most, &limits, marks.cells());
     assert_eq!(a.total(), closed, "{bound:?} {limit:?}");
     let expected = flow::largest(&most, &limits).total();

@@ -1,6 +1,6 @@
-//! How much stack a call may take at N 64 and L 1,024 that works in the tables it is lent.
+//! How much stack a call may take at N 64 and L 1,024, whatever is asked.
 
-use compare::calls::{Taken, call};
+use compare::calls::{CALLS, Taken, call};
 use second::inputs::Random;
 
 #[track_caller]
@@ -16,6 +16,8 @@ fn placement() {
 }
 
 #[test]
-fn the_fair_plan() {
-    at_most(4_096, "plan, fair");
+fn every_entry() {
+    for call in CALLS {
+        at_most(4_096, call.name);
+    }
 }

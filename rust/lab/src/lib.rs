@@ -27,20 +27,21 @@ pub fn fair_cut(n: usize, capacity: &[u32], demand: &[u32], kept: &mut [u32]) {
     }
 }
 
-/// Of all matrices that are at most `bound` at each cell and whose line sums are at most `limit`,
-/// one with the greatest total, in `a`, and in `marks` a byte for each line that proves it so.
-pub fn largest(n: usize, bound: &[u32], limit: &[u32], a: &mut [u32], marks: &mut [u8]) {
+/// Of all matrices that are at most `bound` at each cell and whose line sums are at most the limits
+/// in `room`, one with the greatest total, in `a`, and in `marks` a byte for each line that proves
+/// it so. Each limit gives way to what its line may still take.
+pub fn largest(n: usize, bound: &[u32], room: &mut [u32], a: &mut [u32], marks: &mut [u8]) {
     ask_demands(n, bound);
     ask_cells(n, a);
-    ask_lines(n, limit);
+    ask_lines(n, room);
     ask_lines(n, marks);
     unsafe {
         raw::lab_largest(
             n,
             bound.as_ptr(),
             bound.len(),
-            limit.as_ptr(),
-            limit.len(),
+            room.as_mut_ptr(),
+            room.len(),
             a.as_mut_ptr(),
             a.len(),
             marks.as_mut_ptr(),
@@ -209,7 +210,7 @@ mod tests {
     }
 
     fn largest(t: &mut Tables) {
-        super::largest(t.n, &t.demand, &t.capacity, &mut t.withdrawn, &mut t.marks);
+        super::largest(t.n, &t.demand, &mut t.capacity, &mut t.withdrawn, &mut t.marks);
     }
 
     fn withdraw(t: &mut Tables) {
@@ -243,6 +244,7 @@ mod tests {
         assert_eq!(t.kept, [2, 2, 2, 0]);
         largest(&mut t);
         assert_eq!(t.withdrawn.iter().sum::<u32>(), 7);
+        assert_eq!(t.capacity.iter().sum::<u32>(), 16 - 14);
     }
 
     #[test]

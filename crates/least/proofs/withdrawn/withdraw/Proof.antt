@@ -14,8 +14,8 @@ slice-aggregate-excesses c = search needs
 excesses-requires : tie.Need-excesses-requires
 excesses-requires c κs = search needs
 
-array-share-prefix-limits : tie.Need-array-share-prefix-limits
-array-share-prefix-limits c = search needs
+array-borrow-prefix-limits : tie.Need-array-borrow-prefix-limits
+array-borrow-prefix-limits c = search needs
 
 slice-aggregate-largest : tie.Need-slice-aggregate-largest
 slice-aggregate-largest c = let args = c .before .before .before .before .before .before .before .before .args in
@@ -25,11 +25,11 @@ largest-requires : tie.Need-largest-requires
 largest-requires c κs = let args = c .before .before .before .before .before .before .before .before .before .before .args in
     let pre = c .before .before .before .before .before .before .before .before .before .before .pre in
     record {
-      bounds = pre .demand;
-      demands = pre .demands;
-      cells = pre .withdrawn;
-      limits = omega (arith, limits-fit (args .n) (args .cap .now) (args .demand .now) _ (c .before .before .before .before .excesses .ensures));
-      lines = pre .lines;
+    bounds = pre .demand;
+    demands = pre .demands;
+    cells = pre .withdrawn;
+    limits = omega (arith, limits-fit (args .n) (args .cap .now) (args .demand .now) _ (c .before .before .before .before .excesses .ensures));
+    lines = pre .lines;
     }
 
 same-length : tie.Need-same-length
@@ -39,7 +39,7 @@ same-length-2 : tie.Need-same-length-2
 same-length-2 c = search needs
 
 returns : tie.Need-returns
-returns c = certified-is-withdrawn _ _ _ _ (c .before .before .before .before .before .before .before .before .before .excesses .ensures) (c .before .before .before .before .largest .ensures)
+returns c = certified-is-withdrawn _ _ _ _ (c .before .before .before .before .before .before .before .before .before .before .excesses .ensures) (c .before .before .before .before .before .largest .ensures .0)
 
 pub withdraw-spec : {M : Type 1} → statement M
 withdraw-spec =
@@ -48,7 +48,7 @@ withdraw-spec =
     mul-lines
     slice-aggregate-excesses
     excesses-requires
-    array-share-prefix-limits
+    array-borrow-prefix-limits
     slice-aggregate-largest
     largest-requires
     same-length
