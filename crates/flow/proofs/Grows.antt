@@ -2,7 +2,7 @@
 -- nothing.
 use Prim.Native.Nat.{ℕ, min, _+_, _-_, _*_, _≤_, _<_}
 use native.Mathlib.Omega.{arith}
-use mathlib.Core.Path.{_≡_, refl, _∙_, ap}
+use mathlib.Core.Path.{_≡_, _∙_, ap}
 use mathlib.Core.List.{List}
 use lib.ListN.{length, getD, replicate, getD-replicate, length-replicate}
 use Rattle.sums.specs.Tables.{cell}
@@ -11,10 +11,9 @@ use Rattle.nodes.specs.Sets.{member, None, All, First}
 use Rattle.nodes.proofs.Members.{member-lt, member-none}
 use Rattle.nodes.proofs.SetLaws.{first-none}
 use Rattle.at_least.specs.AtLeast.{AtLeast}
-use Rattle.growth.specs.Growth.{SpansKept}
 use Rattle.growth.specs.Sides.{Sides, Open, Grew}
 use Rattle.growth.proofs.Keeping.{kept-none, kept-join}
-use Rattle.layers.specs.Layers.{Meets, LayerLists, Found, Unreached, Marked}
+use Rattle.layers.specs.Layers.{LayerLists, Found, Unreached, Marked}
 use Rattle.walks.specs.Paths.{PathLists}
 use Rattle.walks.specs.Walks.{CanDrain, Drained}
 use Rattle.flow.specs.Grows.{Empty, CanGrow, Grown}
@@ -72,9 +71,6 @@ pub grew-grown : {n : ℕ} {bound a room a₁ room₁ offers₁ takers₁ a₂ r
 grew-grown f g = record { below = g .below; kept = kept-join (f .kept) (g .kept); rows = g .rows; columns = g .columns; full = g .full; empty = g .empty }
 
 -- ---- search after search
-pub grow-start : {n : ℕ} {bound a offers takers : List ℕ} (room : List ℕ) → Sides n bound a offers takers → Grew n bound a room a room offers takers
-grow-start {n} {a = a} room S = record { sides = S; kept = kept-none n a room }
-
 pub grow-step : {n : ℕ} {bound a₀ room₀ a room offers takers a' room' offers' takers' : List ℕ} → Grew n bound a₀ room₀ a room offers takers → Drained n bound a room a' room' offers' takers' → Grew n bound a₀ room₀ a' room' offers' takers'
 grow-step G D = record { sides = D .sides; kept = kept-join (G .kept) (D .kept) }
 

@@ -4,7 +4,8 @@ use mathlib.Core.Path.{_≡_, refl, _∙_}
 use lib.ListN.{length}
 use Rattle.growth.specs.Growth.{rowRoom}
 use Rattle.growth.specs.Sides.{Grew}
-use Rattle.flow.proofs.Grows.{grow-start, grow-step, layer-lists, found-drain, unreached-grown}
+use Rattle.growth.proofs.Keeping.{grew-none}
+use Rattle.flow.proofs.Grows.{grow-step, layer-lists, found-drain, unreached-grown}
 use Rattle.flow.proofs.grow.grow_with.Statement.{statement}
 use Rattle.flow.proofs.grow.grow_with.Tie as tie
 
@@ -15,7 +16,7 @@ abbrev μ-loop : tie.MeasureT-loop
 μ-loop n bound a₀ room₀ offers₀ takers₀ rows₀ columns₀ at₀ to₀ marks₀ a room offers takers rows columns at to marks = rowRoom n room
 
 loop-holds : tie.Need-loop-holds Inv-loop μ-loop
-loop-holds c = (refl, refl, refl, refl, refl, refl, refl, refl, refl, grow-start _ (c .before .before .before .before .before .before .before .before .before .before .pre .sides))
+loop-holds c = (refl, refl, refl, refl, refl, refl, refl, refl, refl, grew-none _ (c .before .before .before .before .before .before .before .before .before .before .pre .sides))
 
 roomy-requires : tie.Need-roomy-requires Inv-loop μ-loop
 roomy-requires c κs = (c .before .before .before .before .before .before .before .before .before .before .before .before .pre .lists .layers .nodes, omega (arith, c .before .before .before .before .before .before .before .before .before .before .before .before .pre .rooms, c .before .loop .inv .1))
