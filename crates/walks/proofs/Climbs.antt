@@ -8,11 +8,20 @@ use mathlib.Core.List.{List}
 use lib.ListN.{length, getD, set, length-set}
 use lib.Seq.{getD-set-same, getD-set-other}
 use Rattle.sums.proofs.Cases.{by-eq}
-use Rattle.nodes.specs.Sets.{member, Without, Both, First}
-use Rattle.nodes.proofs.SetLaws.{both-in, both-left, both-right, first-none}
+use Rattle.nodes.specs.Sets.{member, Both, First}
+use Rattle.nodes.proofs.SetLaws.{both-in, both-left, both-right}
 use Rattle.layers.specs.Layers.{Layered, Apart}
-use Rattle.walks.specs.Paths.{Path, Follows, weight, Thinned, CanClimb, Climbed}
-use Rattle.walks.proofs.Thinning.{row-leaves, column-leaves, thinned-none, thinned-row, thinned-column, thinned-weight, thinned-apart}
+use Rattle.walks.specs.Paths.{Path, Follows, weight, FirstInBoth, Left, Thinned, CanClimb, Climbed}
+use Rattle.walks.proofs.Thinning.{left-else, left-len, row-leaves, column-leaves, thinned-none, thinned-row, thinned-column, thinned-weight, thinned-apart}
+
+-- the first node of what two sets have in common
+pub meeting-law : {s t b f : ℕ} → Both s t b → First b f → FirstInBoth s t f
+meeting-law B F = record {
+  within = F .within;
+  one = λ lt. both-left B _ (F .found lt);
+  other = λ lt. both-right B _ (F .found lt);
+  before = λ j lt p q. omega (arith, both-in B j p q, F .before j lt);
+}
 
 -- columns of the path are known from layer k on, its rows from layer h on
 pub record Climbing (n : ℕ) (offers takers columns at to : List ℕ) (e last k h : ℕ) : Type 0 where
@@ -66,12 +75,12 @@ module _ {n : ℕ} {offers takers columns at to : List ℕ} {e last k : ℕ} whe
   climb-again C = record { upto = C .upto; end' = C .end'; column = C .column; on = C .on; row = λ m q. C .row m (omega arith); more = λ m q. C .more m (omega arith); less = C .less }
 
   -- nor is the column, which has left
-  climb-back : Climbing n offers takers columns at to e last k (k + 1) → k < last → (w : ℕ) → Climbing n offers takers (set columns k w) at to e last (k + 1) (k + 1 + 1)
-  climb-back C lt w = record {
+  climb-back : Climbing n offers takers columns at to e last k (k + 1) → k < last → {columns' : List ℕ} → ((m : ℕ) → (m ≡ k → ⊥) → getD columns' m 0 ≡ getD columns m 0) → Climbing n offers takers columns' at to e last (k + 1) (k + 1 + 1)
+  climb-back C lt same = record {
     upto = omega arith;
     end' = C .end';
     column = λ m q. C .column m (omega arith);
-    on = λ m q r. rw (getD-set-other columns k m w 0 (λ z. omega arith)) (C .on m (omega arith) r);
+    on = λ m q r. rw (same m (λ z. omega arith)) (C .on m (omega arith) r);
     row = λ m q. C .row m (omega arith);
     more = λ m q. C .more m (omega arith);
     less = λ m q. C .less m (omega arith);
@@ -143,51 +152,48 @@ module _ {n : ℕ} {offers takers rows₀ columns₀ at₀ to₀ rows columns at
   on-layer : member (getD to k 0) (getD columns k 0) ≡ 1
   on-layer = C .climbing .on k (omega arith) (C .climbing .upto)
 
-  module _ {b i : ℕ} (B : Both (getD offers (getD to k 0) 0) (getD rows k 0) b) (F : First b i) where
+  module _ {i : ℕ} (F : FirstInBoth (getD offers (getD to k 0) 0) (getD rows k 0) i) where
     -- ---- a column without a row
-    module _ (none : n ≤ i) {w : ℕ} (W : Without (getD columns k 0) (getD to k 0) w) where
+    module _ (none : n ≤ i) {columns' : List ℕ} (G : Left columns columns' k (getD to k 0)) where
       no-row : Layered n offers takers rows₀ columns₀ last → ⊥
       no-row L =
           let s = C .fresh L in
           let on : member (getD to k 0) (getD columns₀ k 0) ≡ 1 = rw (s .1) at on-layer in
           let m = L .column k (getD to k 0) (C .climbing .upto) here on in
           let other : member (m .node) (getD rows k 0) ≡ 1 = ap (λ z. member (m .node) (getD z k 0)) (s .0) ∙ m .other in
-          first-none F none (m .node) (m .within) (both-in B (m .node) (m .one) other)
+          F .before (m .node) (omega (arith, m .within)) (m .one) other
 
-      pub column-falls : weight n rows (set columns k w) last < weight n rows columns last
-      column-falls = column-leaves n rows columns last k (getD to k 0) w (C .climbing .upto) here fits-columns on-layer W
+      pub column-falls : weight n rows columns' last < weight n rows columns last
+      column-falls = column-leaves n rows (C .climbing .upto) here fits-columns on-layer G
 
-      pub climb-none : Climbed n offers takers rows₀ columns₀ rows (set columns k w) at to e last false
+      pub climb-none : Climbed n offers takers rows₀ columns₀ rows columns' at to e last false
       climb-none = record {
         path = λ t. absurd (false≢true t);
         follows = λ t. absurd (false≢true t);
         start = λ t. absurd (false≢true t);
-        thinned = thinned-column (C .thinned) k (getD to k 0) w fits-columns W;
+        thinned = thinned-column (C .thinned) fits-columns G;
         falls = λ t. omega (arith, column-falls, thinned-weight (C .thinned) n last);
         sure = λ L. absurd (no-row L);
       }
 
-      pub climb-down : k < last → Climb n offers takers rows₀ columns₀ at₀ to₀ rows (set columns k w) at to e last (k + 1)
+      pub climb-down : k < last → Climb n offers takers rows₀ columns₀ at₀ to₀ rows columns' at to e last (k + 1)
       climb-down lt = record {
-        climbing = climb-back (C .climbing) lt w;
-        thinned = thinned-column (C .thinned) k (getD to k 0) w fits-columns W;
+        climbing = climb-back (C .climbing) lt (left-else fits-columns G);
+        thinned = thinned-column (C .thinned) fits-columns G;
         fresh = λ L. absurd (no-row L);
         rows-len = C .rows-len;
-        columns-len = length-set columns k w ∙ C .columns-len;
+        columns-len = left-len fits-columns G ∙ C .columns-len;
         at-len = C .at-len;
         to-len = C .to-len;
       }
 
     -- ---- a row of the layer
     module _ (lt : i < n) where
-      in-both : member i b ≡ 1
-      in-both = F .found (omega (arith, P .lists .layers .nodes))
-
       rowed : Climbing n offers takers columns (set at k i) to e last k k
-      rowed = climb-row (C .climbing) i fits-at lt (both-left B i in-both)
+      rowed = climb-row (C .climbing) i fits-at lt (F .one (omega (arith, P .lists .layers .nodes)))
 
       in-layer : member i (getD rows k 0) ≡ 1
-      in-layer = both-right B i in-both
+      in-layer = F .other (omega (arith, P .lists .layers .nodes))
 
       -- the first layer's
       pub climb-end : k ≡ 0 → Climbed n offers takers rows₀ columns₀ rows columns (set at k i) to e last true
@@ -212,26 +218,26 @@ module _ {n : ℕ} {offers takers rows₀ columns₀ at₀ to₀ rows columns at
             sure = λ L. refl;
           }
 
-      module _ {c g : ℕ} (p : ℕ) (up : p + 1 ≡ k) (G : Both (getD takers i 0) (getD columns p 0) c) (H : First c g) where
+      module _ {g : ℕ} (p : ℕ) (up : p + 1 ≡ k) (H : FirstInBoth (getD takers i 0) (getD columns p 0) g) where
         -- it takes from no column of the layer above
-        module _ (none : n ≤ g) {w : ℕ} (W : Without (getD rows k 0) i w) where
+        module _ (none : n ≤ g) {rows' : List ℕ} (G : Left rows rows' k i) where
           no-column : Layered n offers takers rows₀ columns₀ last → ⊥
           no-column L =
               let s = C .fresh L in
               let on : member i (getD rows₀ k 0) ≡ 1 = rw (s .0) at in-layer in
               let m = L .row p i (omega (arith, C .climbing .upto)) lt (rw up on) in
               let other : member (m .node) (getD columns p 0) ≡ 1 = ap (λ z. member (m .node) (getD z p 0)) (s .1) ∙ m .other in
-              first-none H none (m .node) (m .within) (both-in G (m .node) (m .one) other)
+              H .before (m .node) (omega (arith, m .within)) (m .one) other
 
-          pub row-falls : weight n (set rows k w) columns last < weight n rows columns last
-          row-falls = row-leaves n rows columns last k i w (C .climbing .upto) lt fits-rows in-layer W
+          pub row-falls : weight n rows' columns last < weight n rows columns last
+          row-falls = row-leaves n columns (C .climbing .upto) lt fits-rows in-layer G
 
-          pub climb-beside : Climb n offers takers rows₀ columns₀ at₀ to₀ (set rows k w) columns (set at k i) to e last k
+          pub climb-beside : Climb n offers takers rows₀ columns₀ at₀ to₀ rows' columns (set at k i) to e last k
           climb-beside = record {
             climbing = climb-again rowed;
-            thinned = thinned-row (C .thinned) k i w fits-rows W;
+            thinned = thinned-row (C .thinned) fits-rows G;
             fresh = λ L. absurd (no-column L);
-            rows-len = length-set rows k w ∙ C .rows-len;
+            rows-len = left-len fits-rows G ∙ C .rows-len;
             columns-len = C .columns-len;
             at-len = length-set at k i ∙ C .at-len;
             to-len = C .to-len;
@@ -240,10 +246,10 @@ module _ {n : ℕ} {offers takers rows₀ columns₀ at₀ to₀ rows columns at
         -- it takes from one
         pub climb-up : g < n → Climb n offers takers rows₀ columns₀ at₀ to₀ rows columns (set at k i) (set to p g) e last p
         climb-up lt' =
-            let m = H .found (omega (arith, P .lists .layers .nodes)) in
+            let few' = P .lists .layers .nodes in
             let s : getD (set at k i) k 0 ≡ i = getD-set-same at k i 0 fits-at in
             record {
-              climbing = climb-column rowed p g up (omega (arith, fits-to)) lt' (both-right G g m) (rw s (both-left G g m));
+              climbing = climb-column rowed p g up (omega (arith, fits-to)) lt' (H .other (omega arith)) (rw s (H .one (omega arith)));
               thinned = C .thinned;
               fresh = C .fresh;
               rows-len = C .rows-len;

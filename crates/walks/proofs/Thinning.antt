@@ -3,57 +3,65 @@ use Prim.Native.Nat.{ℕ, _+_, _≤_, _<_}
 use native.Mathlib.Omega.{arith}
 use mathlib.Core.Path.{_≡_, sym, _∙_, ap}
 use mathlib.Core.List.{List}
-use lib.ListN.{length, getD, set}
+use lib.ListN.{length, getD, length-set}
 use lib.Seq.{getD-set-same, getD-set-other}
 use Rattle.sums.proofs.Cases.{by-eq}
 use Rattle.sums.proofs.Sums.{sum-mono, sum-update}
-use Rattle.nodes.specs.Sets.{member, size, Without}
+use Rattle.nodes.specs.Sets.{member, size}
 use Rattle.nodes.proofs.Members.{member-lt}
 use Rattle.nodes.proofs.Sizes.{size-without}
 use Rattle.layers.specs.Layers.{Apart}
-use Rattle.walks.specs.Paths.{weight, Thinned}
+use Rattle.walks.specs.Paths.{weight, Left, Thinned}
 
--- ---- node i leaves set k of a list
-module _ (list : List ℕ) (k i w : ℕ) (fits : k < length list) (W : Without (getD list k 0) i w) where
-  pub left-had : (m j : ℕ) → member j (getD (set list k w) m 0) ≡ 1 → member j (getD list m 0) ≡ 1
+-- ---- node i leaves layer k
+module _ {layers layers' : List ℕ} {k i : ℕ} (fits : k < length layers) (L : Left layers layers' k i) where
+  -- the layer that it leaves, and the others
+  left-here : getD layers' k 0 ≡ L .rest
+  left-here = ap (λ l. getD l k 0) (L .cells) ∙ getD-set-same layers k (L .rest) 0 fits
+
+  pub left-else : (m : ℕ) → (m ≡ k → ⊥) → getD layers' m 0 ≡ getD layers m 0
+  left-else m ne = ap (λ l. getD l m 0) (L .cells) ∙ getD-set-other layers k m (L .rest) 0 ne
+
+  pub left-had : (m j : ℕ) → member j (getD layers' m 0) ≡ 1 → member j (getD layers m 0) ≡ 1
   left-had m j e =
       by-eq m k
       (λ q.
-      let f : member j (getD (set list k w) k 0) ≡ 1 = rw q at e in
-      let g : member j w ≡ 1 = sym (ap (member j) (getD-set-same list k w 0 fits)) ∙ f in
+      let f : member j (getD layers' k 0) ≡ 1 = rw q at e in
+      let g : member j (L .rest) ≡ 1 = sym (ap (member j) left-here) ∙ f in
       by-eq j i
-      (λ z. let h : member i w ≡ 1 = rw z at g in absurd (omega (arith, W .here)))
-      (λ z. rw q (sym (W .other j z) ∙ g)))
-      (λ q. sym (ap (member j) (getD-set-other list k m w 0 q)) ∙ e)
+      (λ z. let h : member i (L .rest) ≡ 1 = rw z at g in absurd (omega (arith, L .without .here)))
+      (λ z. rw q (sym (L .without .other j z) ∙ g)))
+      (λ q. sym (ap (member j) (left-else m q)) ∙ e)
 
-  pub left-gone : member i (getD (set list k w) k 0) ≡ 0
-  left-gone = ap (member i) (getD-set-same list k w 0 fits) ∙ W .here
+  pub left-gone : member i (getD layers' k 0) ≡ 0
+  left-gone = ap (member i) left-here ∙ L .without .here
+
+  pub left-len : length layers' ≡ length layers
+  left-len = ap length (L .cells) ∙ length-set layers k (L .rest)
+
+  left-size : (n : ℕ) → i < n → member i (getD layers k 0) ≡ 1 → size n (getD layers' k 0) + 1 ≡ size n (getD layers k 0)
+  left-size n lt e = omega (arith, ap (size n) left-here, size-without n (getD layers k 0) (L .rest) i lt e (L .without))
 
 -- ---- how many nodes the layers have
-module _ (n : ℕ) (rows columns : List ℕ) (last k i w : ℕ) (le : k ≤ last) (lt : i < n) where
-  pub row-leaves : k < length rows → member i (getD rows k 0) ≡ 1 → Without (getD rows k 0) i w → weight n (set rows k w) columns last < weight n rows columns last
-  unfolding weight
-  row-leaves fits e W =
-      let here : size n (getD (set rows k w) k 0) ≡ size n w = ap (size n) (getD-set-same rows k w 0 fits) in
-      omega (
-        arith,
-        here,
-        size-without n (getD rows k 0) w i lt e W,
-        sum-update (last + 1) (λ m. size n (getD rows m 0) + size n (getD columns m 0)) (λ m. size n (getD (set rows k w) m 0) + size n (getD columns m 0)) k (omega arith)
-            (λ m p ne. ap (λ z. size n z + size n (getD columns m 0)) (getD-set-other rows k m w 0 ne)),
-      )
+pub row-leaves : {k i last : ℕ} {rows rows' : List ℕ} (n : ℕ) (columns : List ℕ) → k ≤ last → i < n → k < length rows → member i (getD rows k 0) ≡ 1 → Left rows rows' k i → weight n rows' columns last < weight n rows columns last
+unfolding weight
+row-leaves {k} {last = last} {rows = rows} {rows' = rows'} n columns le lt fits e L =
+    omega (
+      arith,
+      left-size fits L n lt e,
+      sum-update (last + 1) (λ m. size n (getD rows m 0) + size n (getD columns m 0)) (λ m. size n (getD rows' m 0) + size n (getD columns m 0)) k (omega arith)
+          (λ m p ne. ap (λ z. size n z + size n (getD columns m 0)) (left-else fits L m ne)),
+    )
 
-  pub column-leaves : k < length columns → member i (getD columns k 0) ≡ 1 → Without (getD columns k 0) i w → weight n rows (set columns k w) last < weight n rows columns last
-  unfolding weight
-  column-leaves fits e W =
-      let here : size n (getD (set columns k w) k 0) ≡ size n w = ap (size n) (getD-set-same columns k w 0 fits) in
-      omega (
-        arith,
-        here,
-        size-without n (getD columns k 0) w i lt e W,
-        sum-update (last + 1) (λ m. size n (getD rows m 0) + size n (getD columns m 0)) (λ m. size n (getD rows m 0) + size n (getD (set columns k w) m 0)) k (omega arith)
-            (λ m p ne. ap (λ z. size n (getD rows m 0) + size n z) (getD-set-other columns k m w 0 ne)),
-      )
+pub column-leaves : {k j last : ℕ} {columns columns' : List ℕ} (n : ℕ) (rows : List ℕ) → k ≤ last → j < n → k < length columns → member j (getD columns k 0) ≡ 1 → Left columns columns' k j → weight n rows columns' last < weight n rows columns last
+unfolding weight
+column-leaves {k} {last = last} {columns = columns} {columns' = columns'} n rows le lt fits e L =
+    omega (
+      arith,
+      left-size fits L n lt e,
+      sum-update (last + 1) (λ m. size n (getD rows m 0) + size n (getD columns m 0)) (λ m. size n (getD rows m 0) + size n (getD columns' m 0)) k (omega arith)
+          (λ m p ne. ap (λ z. size n (getD rows m 0) + size n z) (left-else fits L m ne)),
+    )
 
 -- a set that has only what another has is not larger
 size-part : (n s t : ℕ) → ((i : ℕ) → member i t ≡ 1 → member i s ≡ 1) → size n t ≤ size n s
@@ -71,11 +79,11 @@ pub thinned-join : {rows columns rows₁ columns₁ rows₂ columns₂ : List �
 thinned-join T U = record { row = λ k i e. T .row k i (U .row k i e); column = λ k j e. T .column k j (U .column k j e) }
 
 module _ {rows columns rows' columns' : List ℕ} (T : Thinned rows columns rows' columns') where
-  pub thinned-row : (k i w : ℕ) → k < length rows' → Without (getD rows' k 0) i w → Thinned rows columns (set rows' k w) columns'
-  thinned-row k i w fits W = record { row = λ m j e. T .row m j (left-had rows' k i w fits W m j e); column = T .column }
+  pub thinned-row : {k i : ℕ} {rows'' : List ℕ} → k < length rows' → Left rows' rows'' k i → Thinned rows columns rows'' columns'
+  thinned-row fits L = record { row = λ m j e. T .row m j (left-had fits L m j e); column = T .column }
 
-  pub thinned-column : (k j w : ℕ) → k < length columns' → Without (getD columns' k 0) j w → Thinned rows columns rows' (set columns' k w)
-  thinned-column k j w fits W = record { row = T .row; column = λ m i e. T .column m i (left-had columns' k j w fits W m i e) }
+  pub thinned-column : {k j : ℕ} {columns'' : List ℕ} → k < length columns' → Left columns' columns'' k j → Thinned rows columns rows' columns''
+  thinned-column fits L = record { row = T .row; column = λ m i e. T .column m i (left-had fits L m i e) }
 
   pub thinned-weight : (n last : ℕ) → weight n rows' columns' last ≤ weight n rows columns last
   unfolding weight

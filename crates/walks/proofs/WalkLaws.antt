@@ -9,23 +9,23 @@ use mathlib.Core.List.{List}
 use lib.ListN.{length, getD, set, length-set}
 use lib.Seq.{getD-set-same, getD-set-other}
 use Rattle.sums.proofs.Cases.{by-eq}
-use Rattle.nodes.specs.Sets.{member, Without, First}
+use Rattle.nodes.specs.Sets.{member, First}
 use Rattle.nodes.proofs.SetLaws.{first-none}
 use Rattle.growth.specs.Growth.{SpansKept, rowRoom}
 use Rattle.growth.specs.Sides.{Sides}
 use Rattle.growth.proofs.Keeping.{kept-none, kept-join, kept-spent, spent-falls}
 use Rattle.layers.specs.Layers.{Layered, Apart, Meets}
-use Rattle.walks.specs.Paths.{Thinned, weight, PathLists, CanClimb, Climbed, CanCarry, Carried, CanSend, Sent}
+use Rattle.walks.specs.Paths.{Left, Thinned, weight, PathLists, CanClimb, Climbed, CanCarry, Carried, CanSend, Sent}
 use Rattle.walks.specs.Walks.{Roomy, LeftIfNone, CanSpend, Spent, CanWalk, Walked, CanDrain, Drained}
 use Rattle.walks.proofs.Thinning.{left-had, left-gone, thinned-join, thinned-weight, thinned-apart}
 use Rattle.walks.proofs.Sends.{follows-passes}
 
 -- ---- who has no room left leaves
-pub left-stays : {list : List ℕ} {k i left : ℕ} → 0 < left → LeftIfNone list list k i left
+pub left-stays : {layers : List ℕ} {k i left : ℕ} → 0 < left → LeftIfNone layers layers k i left
 left-stays some = record { none = λ z. absurd (omega arith); others = λ m j e. e }
 
-pub left-leaves : {list : List ℕ} {k i left w : ℕ} → k < length list → Without (getD list k 0) i w → LeftIfNone list (set list k w) k i left
-left-leaves {list} {k} {i} {left} {w} fits W = record { none = λ z. left-gone list k i w fits W; others = left-had list k i w fits W }
+pub left-leaves : {layers layers' : List ℕ} {k i left : ℕ} → k < length layers → Left layers layers' k i → LeftIfNone layers layers' k i left
+left-leaves fits L = record { none = λ z. left-gone fits L; others = left-had fits L }
 
 -- x is taken from the room of row i and column j
 module _ {n i j last x : ℕ} {room rows columns : List ℕ} (C : CanSpend n room rows columns i j last x) where

@@ -3,11 +3,11 @@ use Prim.Native.Nat.{ℕ, _+_, _*_, _≤_, _<_}
 use mathlib.Core.Path.{_≡_}
 use mathlib.Core.Bool.{Bool, true, false}
 use mathlib.Core.List.{List}
-use lib.ListN.{length, getD}
+use lib.ListN.{length, getD, set}
 use Rattle.sums.specs.Sums.{sumTo}
 use Rattle.sums.specs.Tables.{cell}
 use Rattle.star.specs.Lines.{lineSum}
-use Rattle.nodes.specs.Sets.{member, size}
+use Rattle.nodes.specs.Sets.{member, size, Without}
 use Rattle.growth.specs.Growth.{Below, only}
 use Rattle.growth.specs.Sides.{Sides}
 use Rattle.layers.specs.Layers.{Layered, Apart, LayerLists}
@@ -41,6 +41,19 @@ pub record PathLists (n : ℕ) (rows columns at to : List ℕ) (last : ℕ) : Ty
 -- how many nodes the layers have
 unfoldable pub weight : (n : ℕ) (rows columns : List ℕ) (last : ℕ) → ℕ
 weight n rows columns last = sumTo (last + 1) (λ k. size n (getD rows k 0) + size n (getD columns k 0))
+
+-- the first node that is in both sets, or 64
+pub record FirstInBoth (s t r : ℕ) : Type 0 where
+  pub within : r ≤ 64
+  pub one : r < 64 → member r s ≡ 1
+  pub other : r < 64 → member r t ≡ 1
+  pub before : (j : ℕ) → j < r → member j s ≡ 1 → member j t ≡ 1 → ⊥
+
+-- node i has left layer k
+pub record Left (layers layers' : List ℕ) (k i : ℕ) : Type 0 where
+  pub rest : ℕ
+  pub without : Without (getD layers k 0) i rest
+  pub cells : layers' ≡ set layers k rest
 
 -- layers have only lost nodes
 pub record Thinned (rows columns rows' columns' : List ℕ) : Type 0 where

@@ -14,10 +14,10 @@ pub record Roomy (n : ℕ) (room rows columns : List ℕ) (last : ℕ) : Type 0 
   pub starts : (i : ℕ) → i < n → member i (getD rows 0 0) ≡ 1 → 0 < getD room i 0
   pub ends : (j : ℕ) → j < n → member j (getD columns last 0) ≡ 1 → 0 < getD room (n + j) 0
 
--- where nothing is left node i leaves set k
-pub record LeftIfNone (list list' : List ℕ) (k i left : ℕ) : Type 0 where
-  pub none : left ≡ 0 → member i (getD list' k 0) ≡ 0
-  pub others : (m j : ℕ) → member j (getD list' m 0) ≡ 1 → member j (getD list m 0) ≡ 1
+-- where nothing is left node i leaves layer k
+pub record LeftIfNone (layers layers' : List ℕ) (k i left : ℕ) : Type 0 where
+  pub none : left ≡ 0 → member i (getD layers' k 0) ≡ 0
+  pub others : (m j : ℕ) → member j (getD layers' m 0) ≡ 1 → member j (getD layers m 0) ≡ 1
 
 -- x can be taken from the room of row i and column j
 pub record CanSpend (n : ℕ) (room rows columns : List ℕ) (i j last x : ℕ) : Type 0 where

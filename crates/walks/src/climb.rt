@@ -1,6 +1,24 @@
 // The search for a path, from its end up.
 use arrays::lists;
-ghost use Rattle.walks.specs.Paths.{CanClimb, Climbed};
+ghost use Prim.Native.Nat.{_<_};
+ghost use lib.ListN.{length, getD};
+ghost use Rattle.walks.specs.Paths.{FirstInBoth, Left, CanClimb, Climbed};
+
+// The first node that is in a node's own set and in a layer, or 64.
+fn meeting(list: &[u64], node: usize, layers: &[u64], k: usize) -> usize
+    requires { ⌜ (node < length (now list)) × (k < length (now layers)) ⌝ }
+    ensures { λ r. ⌜ FirstInBoth (getD (now (list .entry)) node 0) (getD (now (layers .entry)) k 0) r ⌝ }
+{
+    nodes::first(nodes::both(lists::set_at(list, node), lists::set_at(layers, k)))
+}
+
+// Node i leaves layer k.
+pub fn leave(layers: &mut [u64], k: usize, i: usize)
+    requires { ⌜ (k < length (now layers)) × (i < 64) ⌝ }
+    ensures { λ _. ⌜ Left (now (layers .entry)) (now (layers .exit)) k i ⌝ }
+{
+    lists::put_set(layers, k, nodes::without(lists::set_at(layers, k), i));
+}
 
 // Looks for a path from column e of the last layer up to a row of the first. A node that leads no further leaves its layer. False where e has no path,
 // and has left.
@@ -22,9 +40,9 @@ pub fn climb(
     let mut k = last;
     loop {
         let j = lists::byte(to, k);
-        let i = nodes::first(nodes::both(lists::set_at(offers, j), lists::set_at(rows, k)));
+        let i = meeting(offers, j, rows, k);
         if i >= n {
-            lists::put_set(columns, k, nodes::without(lists::set_at(columns, k), j));
+            leave(columns, k, j);
             if k >= last {
                 return false;
             }
@@ -35,9 +53,9 @@ pub fn climb(
         if k == 0 {
             return true;
         }
-        let g = nodes::first(nodes::both(lists::set_at(takers, i), lists::set_at(columns, k - 1)));
+        let g = meeting(takers, i, columns, k - 1);
         if g >= n {
-            lists::put_set(rows, k, nodes::without(lists::set_at(rows, k), i));
+            leave(rows, k, i);
             continue;
         }
         k -= 1;

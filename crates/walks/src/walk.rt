@@ -1,5 +1,6 @@
 // Walk after walk through the same layers.
 use crate::climb::climb;
+use crate::climb::leave;
 use crate::send::bottleneck;
 use crate::send::send;
 use arrays::lists;
@@ -7,15 +8,15 @@ ghost use Prim.Native.Nat.{_<_};
 ghost use lib.ListN.{length};
 ghost use Rattle.walks.specs.Walks.{LeftIfNone, CanSpend, Spent, CanWalk, Walked, CanDrain, Drained};
 
-// Node i leaves set k where nothing is left.
-fn leave_if_none(list: &mut [u64], k: usize, i: usize, left: u32)
-    requires { ⌜ (k < length (now list)) × (i < 64) ⌝ }
-    ensures { λ _. ⌜ LeftIfNone (now (list .entry)) (now (list .exit)) k i left ⌝ }
+// Node i leaves layer k where nothing is left.
+fn leave_if_none(layers: &mut [u64], k: usize, i: usize, left: u32)
+    requires { ⌜ (k < length (now layers)) × (i < 64) ⌝ }
+    ensures { λ _. ⌜ LeftIfNone (now (layers .entry)) (now (layers .exit)) k i left ⌝ }
 {
     if left > 0 {
         return;
     }
-    lists::put_set(list, k, nodes::without(lists::set_at(list, k), i));
+    leave(layers, k, i);
 }
 
 // Row i of the first layer and column j of the last have x less room. What has none left leaves its layer.

@@ -35,11 +35,11 @@ largest-on-requires : tie.Need-largest-on-requires
 largest-on-requires c κs = let asked = c .before .before .before .before .before .before .before .pre in
     let args = c .before .before .before .before .before .before .before .args in
     record {
-    bounds = asked .bounds;
-    demands = asked .demands;
-    cells = record { nodes = asked .cells .nodes; cells = le-of-eq (sym (length-take-le _ (args .a .now) (asked .cells .cells))) };
-    limits = le-of-eq (sym (length-take-le _ (args .room .now) (asked .limits)));
-    lines = le-of-eq (sym (length-take-le _ (args .marks .now) (asked .lines)));
+      bounds = asked .bounds;
+      demands = asked .demands;
+      cells = record { nodes = asked .cells .nodes; cells = le-of-eq (sym (length-take-le _ (args .a .now) (asked .cells .cells))) };
+      limits = le-of-eq (sym (length-take-le _ (args .room .now) (asked .limits)));
+      lines = le-of-eq (sym (length-take-le _ (args .marks .now) (asked .lines)));
     }
 
 same-length : tie.Need-same-length

@@ -25,11 +25,11 @@ largest-requires : tie.Need-largest-requires
 largest-requires c κs = let args = c .before .before .before .before .before .before .before .before .before .before .args in
     let pre = c .before .before .before .before .before .before .before .before .before .before .pre in
     record {
-    bounds = pre .demand;
-    demands = pre .demands;
-    cells = pre .withdrawn;
-    limits = omega (arith, limits-fit (args .n) (args .cap .now) (args .demand .now) _ (c .before .before .before .before .excesses .ensures));
-    lines = pre .lines;
+      bounds = pre .demand;
+      demands = pre .demands;
+      cells = pre .withdrawn;
+      limits = omega (arith, limits-fit (args .n) (args .cap .now) (args .demand .now) _ (c .before .before .before .before .excesses .ensures));
+      lines = pre .lines;
     }
 
 same-length : tie.Need-same-length

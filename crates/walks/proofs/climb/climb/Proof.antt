@@ -22,110 +22,80 @@ loop-holds c = rw (c .before .before .put-byte .ensures) (climb-start (c .before
 byte-requires : tie.Need-byte-requires Inv-loop μ-loop
 byte-requires c κs = fits-to (climb-lists (c .before .before .before .before .before .before .before .before .before .before .before .before .pre) (c .before .before .before .before .put-byte .kept .0)) (c .before .loop .inv)
 
-set-at-requires : tie.Need-set-at-requires Inv-loop μ-loop
-set-at-requires c κs = omega (arith, c .before .before .before .before .before .before .before .before .before .before .before .before .before .pre .offered, c .byte .ensures, here (climb-lists (c .before .before .before .before .before .before .before .before .before .before .before .before .before .pre) (c .before .before .before .before .before .put-byte .kept .0)) (c .before .before .loop .inv))
+meeting-requires : tie.Need-meeting-requires Inv-loop μ-loop
+meeting-requires c κs = (omega (arith, c .before .before .before .before .before .before .before .before .before .before .before .before .before .before .pre .offered, c .before .byte .ensures .0, here (climb-lists (c .before .before .before .before .before .before .before .before .before .before .before .before .before .before .pre) (c .before .before .before .before .before .before .put-byte .kept .0)) (c .before .before .before .loop .inv)), fits-rows (climb-lists (c .before .before .before .before .before .before .before .before .before .before .before .before .before .before .pre) (c .before .before .before .before .before .before .put-byte .kept .0)) (c .before .before .before .loop .inv))
 
-set-at-requires-2 : tie.Need-set-at-requires-2 Inv-loop μ-loop
-set-at-requires-2 c κs = fits-rows (climb-lists (c .before .before .before .before .before .before .before .before .before .before .before .before .before .before .before .pre) (c .before .before .before .before .before .before .before .put-byte .kept .0)) (c .before .before .before .before .loop .inv)
-
-both-requires : tie.Need-both-requires Inv-loop μ-loop
-both-requires c κs = tt
-
-first-requires : tie.Need-first-requires Inv-loop μ-loop
-first-requires c κs = tt
-
-set-at-requires-3 : tie.Need-set-at-requires-3 Inv-loop μ-loop
-set-at-requires-3 c κs = fits-columns (climb-lists (c .before .before .before .before .before .before .before .before .before .before .before .before .before .before .before .before .before .before .before .before .before .pre) (c .before .before .before .before .before .before .before .before .before .before .before .before .before .put-byte .kept .0)) (c .before .before .before .before .before .before .before .before .before .before .loop .inv)
-
-without-requires : tie.Need-without-requires Inv-loop μ-loop
-without-requires c κs = omega (arith, c .before .before .before .before .before .before .before .before .before .byte .ensures, here (climb-lists (c .before .before .before .before .before .before .before .before .before .before .before .before .before .before .before .before .before .before .before .before .before .before .pre) (c .before .before .before .before .before .before .before .before .before .before .before .before .before .before .put-byte .kept .0)) (c .before .before .before .before .before .before .before .before .before .before .before .loop .inv), c .before .before .before .before .before .before .before .before .before .before .before .before .before .before .before .before .before .before .before .before .before .before .pre .lists .layers .nodes)
-
-put-set-requires : tie.Need-put-set-requires Inv-loop μ-loop
-put-set-requires c κs = fits-columns (climb-lists (c .before .before .before .before .before .before .before .before .before .before .before .before .before .before .before .before .before .before .before .before .before .before .before .pre) (c .before .before .before .before .before .before .before .before .before .before .before .before .before .before .before .put-byte .kept .0)) (c .before .before .before .before .before .before .before .before .before .before .before .before .loop .inv)
+leave-requires : tie.Need-leave-requires Inv-loop μ-loop
+leave-requires c κs = (fits-columns (climb-lists (c .before .before .before .before .before .before .before .before .before .before .before .before .before .before .before .before .before .pre) (c .before .before .before .before .before .before .before .before .before .put-byte .kept .0)) (c .before .before .before .before .before .before .loop .inv), omega (arith, c .before .before .before .before .byte .ensures .0, here (climb-lists (c .before .before .before .before .before .before .before .before .before .before .before .before .before .before .before .before .before .pre) (c .before .before .before .before .before .before .before .before .before .put-byte .kept .0)) (c .before .before .before .before .before .before .loop .inv), c .before .before .before .before .before .before .before .before .before .before .before .before .before .before .before .before .before .pre .lists .layers .nodes))
 
 same-length : tie.Need-same-length Inv-loop μ-loop
-same-length c = c .before .before .before .before .before .before .before .before .before .before .before .before .before .before .before .before .loop .inv .rows-len
+same-length c = c .before .before .before .before .before .before .before .before .before .before .loop .inv .rows-len
 
 same-length-2 : tie.Need-same-length-2 Inv-loop μ-loop
-same-length-2 c = c .before .before .before .put-set .kept .0 ∙ c .before .before .before .before .before .before .before .before .before .before .before .before .before .before .before .before .loop .inv .columns-len
+same-length-2 c = c .before .before .before .leave .kept .0 ∙ c .before .before .before .before .before .before .before .before .before .before .loop .inv .columns-len
 
 same-length-3 : tie.Need-same-length-3 Inv-loop μ-loop
-same-length-3 c = c .before .before .before .before .before .before .before .before .before .before .before .before .before .before .before .before .loop .inv .at-len
+same-length-3 c = c .before .before .before .before .before .before .before .before .before .before .loop .inv .at-len
 
 same-length-4 : tie.Need-same-length-4 Inv-loop μ-loop
-same-length-4 c = c .before .before .before .before .before .before .before .before .before .before .before .before .before .before .before .before .loop .inv .to-len ∙ c .before .before .before .before .before .before .before .before .before .before .before .before .before .before .before .before .before .before .before .put-byte .kept .0
+same-length-4 c = c .before .before .before .before .before .before .before .before .before .before .loop .inv .to-len ∙ c .before .before .before .before .before .before .before .before .before .before .before .before .before .put-byte .kept .0
 
 returns : tie.Need-returns Inv-loop μ-loop
-returns c = rw (c .before .before .before .put-set .ensures) (climb-none (climb-lists (c .before .before .before .before .before .before .before .before .before .before .before .before .before .before .before .before .before .before .before .before .before .before .before .before .before .before .before .pre) (c .before .before .before .before .before .before .before .before .before .before .before .before .before .before .before .before .before .before .before .put-byte .kept .0)) (c .before .before .before .before .before .before .before .before .before .before .before .before .before .before .before .before .loop .inv) (rw (c .before .before .before .before .before .before .before .before .before .before .before .before .before .set-at .ensures, c .before .before .before .before .before .before .before .before .before .before .before .set-at2 .ensures, c .before .before .before .before .before .before .before .before .before .before .before .before .before .before .byte .ensures .0) at (c .before .before .before .before .before .before .before .before .before .before .both .ensures)) (c .before .before .before .before .before .before .before .before .before .first .ensures) (c .before .before .before .before .before .before .before .before .if1 .taken) (rw (c .before .before .before .before .before .set-at3 .ensures, c .before .before .before .before .before .before .before .before .before .before .before .before .before .before .byte .ensures .0) at (c .before .before .before .before .without .ensures)))
+returns c = climb-none (climb-lists (c .before .before .before .before .before .before .before .before .before .before .before .before .before .before .before .before .before .before .before .before .before .pre) (c .before .before .before .before .before .before .before .before .before .before .before .before .before .put-byte .kept .0)) (c .before .before .before .before .before .before .before .before .before .before .loop .inv) (rw (c .before .before .before .before .before .before .before .before .byte .ensures .0) at (c .before .before .before .before .before .before .meeting .ensures)) (c .before .before .before .before .before .if1 .taken) (rw (c .before .before .before .before .before .before .before .before .byte .ensures .0) at (c .before .before .before .leave .ensures))
 
 add-k : tie.Need-add-k Inv-loop μ-loop
-add-k c = omega (arith, c .if2 .left, c .before .before .before .before .before .before .before .before .before .before .before .before .before .before .before .before .before .before .before .before .before .before .before .before .before .before .before .pre .lists .few, c .before .before .before .before .before .before .before .before .before .before .before .before .before .before .before .before .before .before .before .before .before .before .before .before .before .before .before .pre .lists .layers .nodes)
+add-k c = omega (arith, c .if2 .left, c .before .before .before .before .before .before .before .before .before .before .before .before .before .before .before .before .before .before .before .before .before .pre .lists .few, c .before .before .before .before .before .before .before .before .before .before .before .before .before .before .before .before .before .before .before .before .before .pre .lists .layers .nodes)
 
 loop-less : tie.Need-loop-less Inv-loop μ-loop
-loop-less c = rw (c .before .before .before .put-set .ensures) (omega (arith, column-falls (climb-lists (c .before .before .before .before .before .before .before .before .before .before .before .before .before .before .before .before .before .before .before .before .before .before .before .before .before .before .before .pre) (c .before .before .before .before .before .before .before .before .before .before .before .before .before .before .before .before .before .before .before .put-byte .kept .0)) (c .before .before .before .before .before .before .before .before .before .before .before .before .before .before .before .before .loop .inv) (rw (c .before .before .before .before .before .before .before .before .before .before .before .before .before .set-at .ensures, c .before .before .before .before .before .before .before .before .before .before .before .set-at2 .ensures, c .before .before .before .before .before .before .before .before .before .before .before .before .before .before .byte .ensures .0) at (c .before .before .before .before .before .before .before .before .before .before .both .ensures)) (c .before .before .before .before .before .before .before .before .before .first .ensures) (c .before .before .before .before .before .before .before .before .if1 .taken) (rw (c .before .before .before .before .before .set-at3 .ensures, c .before .before .before .before .before .before .before .before .before .before .before .before .before .before .byte .ensures .0) at (c .before .before .before .before .without .ensures))))
+loop-less c = omega (arith, column-falls (climb-lists (c .before .before .before .before .before .before .before .before .before .before .before .before .before .before .before .before .before .before .before .before .before .pre) (c .before .before .before .before .before .before .before .before .before .before .before .before .before .put-byte .kept .0)) (c .before .before .before .before .before .before .before .before .before .before .loop .inv) (rw (c .before .before .before .before .before .before .before .before .byte .ensures .0) at (c .before .before .before .before .before .before .meeting .ensures)) (c .before .before .before .before .before .if1 .taken) (rw (c .before .before .before .before .before .before .before .before .byte .ensures .0) at (c .before .before .before .leave .ensures)))
 
 loop-again : tie.Need-loop-again Inv-loop μ-loop
-loop-again c = rw (c .before .before .before .put-set .ensures) (climb-down (climb-lists (c .before .before .before .before .before .before .before .before .before .before .before .before .before .before .before .before .before .before .before .before .before .before .before .before .before .before .before .pre) (c .before .before .before .before .before .before .before .before .before .before .before .before .before .before .before .before .before .before .before .put-byte .kept .0)) (c .before .before .before .before .before .before .before .before .before .before .before .before .before .before .before .before .loop .inv) (rw (c .before .before .before .before .before .before .before .before .before .before .before .before .before .set-at .ensures, c .before .before .before .before .before .before .before .before .before .before .before .set-at2 .ensures, c .before .before .before .before .before .before .before .before .before .before .before .before .before .before .byte .ensures .0) at (c .before .before .before .before .before .before .before .before .before .before .both .ensures)) (c .before .before .before .before .before .before .before .before .before .first .ensures) (c .before .before .before .before .before .before .before .before .if1 .taken) (rw (c .before .before .before .before .before .set-at3 .ensures, c .before .before .before .before .before .before .before .before .before .before .before .before .before .before .byte .ensures .0) at (c .before .before .before .before .without .ensures)) (c .if2 .left))
+loop-again c = climb-down (climb-lists (c .before .before .before .before .before .before .before .before .before .before .before .before .before .before .before .before .before .before .before .before .before .pre) (c .before .before .before .before .before .before .before .before .before .before .before .before .before .put-byte .kept .0)) (c .before .before .before .before .before .before .before .before .before .before .loop .inv) (rw (c .before .before .before .before .before .before .before .before .byte .ensures .0) at (c .before .before .before .before .before .before .meeting .ensures)) (c .before .before .before .before .before .if1 .taken) (rw (c .before .before .before .before .before .before .before .before .byte .ensures .0) at (c .before .before .before .leave .ensures)) (c .if2 .left)
 
 put-byte-requires-2 : tie.Need-put-byte-requires-2 Inv-loop μ-loop
-put-byte-requires-2 c κs = (fits-at (climb-lists (c .before .before .before .before .before .before .before .before .before .before .before .before .before .before .before .before .before .before .before .before .pre) (c .before .before .before .before .before .before .before .before .before .before .before .before .put-byte .kept .0)) (c .before .before .before .before .before .before .before .before .before .loop .inv), omega (arith, c .before .if1 .left, c .before .before .before .before .before .before .before .before .before .before .before .before .before .before .before .before .before .before .before .before .pre .lists .layers .nodes))
+put-byte-requires-2 c κs = (fits-at (climb-lists (c .before .before .before .before .before .before .before .before .before .before .before .before .before .before .before .before .before .pre) (c .before .before .before .before .before .before .before .before .before .put-byte .kept .0)) (c .before .before .before .before .before .before .loop .inv), omega (arith, c .before .if1 .left, c .before .before .before .before .before .before .before .before .before .before .before .before .before .before .before .before .before .pre .lists .layers .nodes))
 
 same-length-5 : tie.Need-same-length-5 Inv-loop μ-loop
-same-length-5 c = c .before .before .before .before .before .before .before .before .before .before .before .before .before .loop .inv .rows-len
+same-length-5 c = c .before .before .before .before .before .before .before .before .before .before .loop .inv .rows-len
 
 same-length-6 : tie.Need-same-length-6 Inv-loop μ-loop
-same-length-6 c = c .before .before .before .before .before .before .before .before .before .before .before .before .before .loop .inv .columns-len
+same-length-6 c = c .before .before .before .before .before .before .before .before .before .before .loop .inv .columns-len
 
 same-length-7 : tie.Need-same-length-7 Inv-loop μ-loop
-same-length-7 c = c .before .before .before .put-byte2 .kept .0 ∙ c .before .before .before .before .before .before .before .before .before .before .before .before .before .loop .inv .at-len
+same-length-7 c = c .before .before .before .put-byte2 .kept .0 ∙ c .before .before .before .before .before .before .before .before .before .before .loop .inv .at-len
 
 same-length-8 : tie.Need-same-length-8 Inv-loop μ-loop
-same-length-8 c = c .before .before .before .before .before .before .before .before .before .before .before .before .before .loop .inv .to-len ∙ c .before .before .before .before .before .before .before .before .before .before .before .before .before .before .before .before .put-byte .kept .0
+same-length-8 c = c .before .before .before .before .before .before .before .before .before .before .loop .inv .to-len ∙ c .before .before .before .before .before .before .before .before .before .before .before .before .before .put-byte .kept .0
 
 returns-2 : tie.Need-returns-2 Inv-loop μ-loop
-returns-2 c = rw (c .before .before .before .put-byte2 .ensures) (climb-end (climb-lists (c .before .before .before .before .before .before .before .before .before .before .before .before .before .before .before .before .before .before .before .before .before .before .before .before .pre) (c .before .before .before .before .before .before .before .before .before .before .before .before .before .before .before .before .put-byte .kept .0)) (c .before .before .before .before .before .before .before .before .before .before .before .before .before .loop .inv) (rw (c .before .before .before .before .before .before .before .before .before .before .set-at .ensures, c .before .before .before .before .before .before .before .before .set-at2 .ensures, c .before .before .before .before .before .before .before .before .before .before .before .byte .ensures .0) at (c .before .before .before .before .before .before .before .both .ensures)) (c .before .before .before .before .before .before .first .ensures) (c .before .before .before .before .before .if1 .left) (c .if3 .taken))
+returns-2 c = rw (c .before .before .before .put-byte2 .ensures) (climb-end (climb-lists (c .before .before .before .before .before .before .before .before .before .before .before .before .before .before .before .before .before .before .before .before .before .pre) (c .before .before .before .before .before .before .before .before .before .before .before .before .before .put-byte .kept .0)) (c .before .before .before .before .before .before .before .before .before .before .loop .inv) (rw (c .before .before .before .before .before .before .before .before .byte .ensures .0) at (c .before .before .before .before .before .before .meeting .ensures)) (c .before .before .before .before .before .if1 .left) (c .if3 .taken))
 
-set-at-requires-4 : tie.Need-set-at-requires-4 Inv-loop μ-loop
-set-at-requires-4 c κs = omega (arith, c .before .before .before .before .before .before .before .before .before .before .before .before .before .before .before .before .before .before .before .before .before .before .before .before .pre .taken, c .before .before .before .before .before .if1 .left)
+sub-meeting : tie.Need-sub-meeting Inv-loop μ-loop
+sub-meeting c = omega (arith, c .before .if3 .left)
 
-sub-set-at : tie.Need-sub-set-at Inv-loop μ-loop
-sub-set-at c = omega (arith, c .before .before .if3 .left)
+meeting-requires-2 : tie.Need-meeting-requires-2 Inv-loop μ-loop
+meeting-requires-2 c κs = (omega (arith, c .before .before .before .before .before .before .before .before .before .before .before .before .before .before .before .before .before .before .before .before .before .before .pre .taken, c .before .before .before .before .before .before .if1 .left), omega (arith, fits-columns (climb-lists (c .before .before .before .before .before .before .before .before .before .before .before .before .before .before .before .before .before .before .before .before .before .before .pre) (c .before .before .before .before .before .before .before .before .before .before .before .before .before .before .put-byte .kept .0)) (c .before .before .before .before .before .before .before .before .before .before .before .loop .inv)))
 
-set-at-requires-5 : tie.Need-set-at-requires-5 Inv-loop μ-loop
-set-at-requires-5 c κs = omega (arith, fits-columns (climb-lists (c .before .before .before .before .before .before .before .before .before .before .before .before .before .before .before .before .before .before .before .before .before .before .before .before .before .before .pre) (c .before .before .before .before .before .before .before .before .before .before .before .before .before .before .before .before .before .before .put-byte .kept .0)) (c .before .before .before .before .before .before .before .before .before .before .before .before .before .before .before .loop .inv))
-
-both-requires-2 : tie.Need-both-requires-2 Inv-loop μ-loop
-both-requires-2 c κs = tt
-
-first-requires-2 : tie.Need-first-requires-2 Inv-loop μ-loop
-first-requires-2 c κs = tt
-
-set-at-requires-6 : tie.Need-set-at-requires-6 Inv-loop μ-loop
-set-at-requires-6 c κs = fits-rows (climb-lists (c .before .before .before .before .before .before .before .before .before .before .before .before .before .before .before .before .before .before .before .before .before .before .before .before .before .before .before .before .before .before .before .before .pre) (c .before .before .before .before .before .before .before .before .before .before .before .before .before .before .before .before .before .before .before .before .before .before .before .before .put-byte .kept .0)) (c .before .before .before .before .before .before .before .before .before .before .before .before .before .before .before .before .before .before .before .before .before .loop .inv)
-
-without-requires-2 : tie.Need-without-requires-2 Inv-loop μ-loop
-without-requires-2 c κs = omega (arith, c .before .before .before .before .before .before .before .before .before .before .before .before .before .before .if1 .left, c .before .before .before .before .before .before .before .before .before .before .before .before .before .before .before .before .before .before .before .before .before .before .before .before .before .before .before .before .before .before .before .before .before .pre .lists .layers .nodes)
-
-put-set-requires-2 : tie.Need-put-set-requires-2 Inv-loop μ-loop
-put-set-requires-2 c κs = fits-rows (climb-lists (c .before .before .before .before .before .before .before .before .before .before .before .before .before .before .before .before .before .before .before .before .before .before .before .before .before .before .before .before .before .before .before .before .before .before .pre) (c .before .before .before .before .before .before .before .before .before .before .before .before .before .before .before .before .before .before .before .before .before .before .before .before .before .before .put-byte .kept .0)) (c .before .before .before .before .before .before .before .before .before .before .before .before .before .before .before .before .before .before .before .before .before .before .before .loop .inv)
+leave-requires-2 : tie.Need-leave-requires-2 Inv-loop μ-loop
+leave-requires-2 c κs = (fits-rows (climb-lists (c .before .before .before .before .before .before .before .before .before .before .before .before .before .before .before .before .before .before .before .before .before .before .before .before .before .pre) (c .before .before .before .before .before .before .before .before .before .before .before .before .before .before .before .before .before .put-byte .kept .0)) (c .before .before .before .before .before .before .before .before .before .before .before .before .before .before .loop .inv), omega (arith, c .before .before .before .before .before .before .before .before .before .if1 .left, c .before .before .before .before .before .before .before .before .before .before .before .before .before .before .before .before .before .before .before .before .before .before .before .before .before .pre .lists .layers .nodes))
 
 loop-less-2 : tie.Need-loop-less-2 Inv-loop μ-loop
-loop-less-2 c = rw (c .before .before .put-set2 .ensures) (omega (arith, row-falls (climb-lists (c .before .before .before .before .before .before .before .before .before .before .before .before .before .before .before .before .before .before .before .before .before .before .before .before .before .before .before .before .before .before .before .before .before .before .before .before .before .pre) (c .before .before .before .before .before .before .before .before .before .before .before .before .before .before .before .before .before .before .before .before .before .before .before .before .before .before .before .before .before .put-byte .kept .0)) (c .before .before .before .before .before .before .before .before .before .before .before .before .before .before .before .before .before .before .before .before .before .before .before .before .before .before .loop .inv) (rw (c .before .before .before .before .before .before .before .before .before .before .before .before .before .before .before .before .before .before .before .before .before .before .before .set-at .ensures, c .before .before .before .before .before .before .before .before .before .before .before .before .before .before .before .before .before .before .before .before .before .set-at2 .ensures, c .before .before .before .before .before .before .before .before .before .before .before .before .before .before .before .before .before .before .before .before .before .before .before .before .byte .ensures .0) at (c .before .before .before .before .before .before .before .before .before .before .before .before .before .before .before .before .before .before .before .before .both .ensures)) (c .before .before .before .before .before .before .before .before .before .before .before .before .before .before .before .before .before .before .before .first .ensures) (c .before .before .before .before .before .before .before .before .before .before .before .before .before .before .before .before .before .before .if1 .left) (c .before .before .before .before .before .before .before .before .before .before .before .before .before .before .before .before .before .before .before .before .before .before .before .before .before .before .loop .k - 1) (omega (arith, c .before .before .before .before .before .before .before .before .before .before .before .before .before .if3 .left)) (rw (c .before .before .before .before .before .before .before .before .before .before .before .before .set-at4 .ensures, c .before .before .before .before .before .before .before .before .before .before .set-at5 .ensures) at (c .before .before .before .before .before .before .before .before .before .both2 .ensures)) (c .before .before .before .before .before .before .before .before .first2 .ensures) (c .before .before .before .before .before .before .before .if4 .taken) (rw (c .before .before .before .before .set-at6 .ensures) at (c .before .before .before .without2 .ensures))))
+loop-less-2 c = omega (arith, row-falls (climb-lists (c .before .before .before .before .before .before .before .before .before .before .before .before .before .before .before .before .before .before .before .before .before .before .before .before .before .before .before .before .pre) (c .before .before .before .before .before .before .before .before .before .before .before .before .before .before .before .before .before .before .before .before .put-byte .kept .0)) (c .before .before .before .before .before .before .before .before .before .before .before .before .before .before .before .before .before .loop .inv) (rw (c .before .before .before .before .before .before .before .before .before .before .before .before .before .before .before .byte .ensures .0) at (c .before .before .before .before .before .before .before .before .before .before .before .before .before .meeting .ensures)) (c .before .before .before .before .before .before .before .before .before .before .before .before .if1 .left) (c .before .before .before .before .before .before .before .before .before .before .before .before .before .before .before .before .before .loop .k - 1) (omega (arith, c .before .before .before .before .before .before .before .if3 .left)) (c .before .before .before .before .before .meeting2 .ensures) (c .before .before .before .before .if4 .taken) (c .before .before .leave2 .ensures))
 
 loop-again-2 : tie.Need-loop-again-2 Inv-loop μ-loop
-loop-again-2 c = rw (c .before .before .put-set2 .ensures, c .before .before .before .before .before .before .before .before .before .before .before .before .before .before .before .before .put-byte2 .ensures) (climb-beside (climb-lists (c .before .before .before .before .before .before .before .before .before .before .before .before .before .before .before .before .before .before .before .before .before .before .before .before .before .before .before .before .before .before .before .before .before .before .before .before .before .pre) (c .before .before .before .before .before .before .before .before .before .before .before .before .before .before .before .before .before .before .before .before .before .before .before .before .before .before .before .before .before .put-byte .kept .0)) (c .before .before .before .before .before .before .before .before .before .before .before .before .before .before .before .before .before .before .before .before .before .before .before .before .before .before .loop .inv) (rw (c .before .before .before .before .before .before .before .before .before .before .before .before .before .before .before .before .before .before .before .before .before .before .before .set-at .ensures, c .before .before .before .before .before .before .before .before .before .before .before .before .before .before .before .before .before .before .before .before .before .set-at2 .ensures, c .before .before .before .before .before .before .before .before .before .before .before .before .before .before .before .before .before .before .before .before .before .before .before .before .byte .ensures .0) at (c .before .before .before .before .before .before .before .before .before .before .before .before .before .before .before .before .before .before .before .before .both .ensures)) (c .before .before .before .before .before .before .before .before .before .before .before .before .before .before .before .before .before .before .before .first .ensures) (c .before .before .before .before .before .before .before .before .before .before .before .before .before .before .before .before .before .before .if1 .left) (c .before .before .before .before .before .before .before .before .before .before .before .before .before .before .before .before .before .before .before .before .before .before .before .before .before .before .loop .k - 1) (omega (arith, c .before .before .before .before .before .before .before .before .before .before .before .before .before .if3 .left)) (rw (c .before .before .before .before .before .before .before .before .before .before .before .before .set-at4 .ensures, c .before .before .before .before .before .before .before .before .before .before .set-at5 .ensures) at (c .before .before .before .before .before .before .before .before .before .both2 .ensures)) (c .before .before .before .before .before .before .before .before .first2 .ensures) (c .before .before .before .before .before .before .before .if4 .taken) (rw (c .before .before .before .before .set-at6 .ensures) at (c .before .before .before .without2 .ensures)))
+loop-again-2 c = rw (c .before .before .before .before .before .before .before .before .before .before .put-byte2 .ensures) (climb-beside (climb-lists (c .before .before .before .before .before .before .before .before .before .before .before .before .before .before .before .before .before .before .before .before .before .before .before .before .before .before .before .before .pre) (c .before .before .before .before .before .before .before .before .before .before .before .before .before .before .before .before .before .before .before .before .put-byte .kept .0)) (c .before .before .before .before .before .before .before .before .before .before .before .before .before .before .before .before .before .loop .inv) (rw (c .before .before .before .before .before .before .before .before .before .before .before .before .before .before .before .byte .ensures .0) at (c .before .before .before .before .before .before .before .before .before .before .before .before .before .meeting .ensures)) (c .before .before .before .before .before .before .before .before .before .before .before .before .if1 .left) (c .before .before .before .before .before .before .before .before .before .before .before .before .before .before .before .before .before .loop .k - 1) (omega (arith, c .before .before .before .before .before .before .before .if3 .left)) (c .before .before .before .before .before .meeting2 .ensures) (c .before .before .before .before .if4 .taken) (c .before .before .leave2 .ensures))
 
 sub-k : tie.Need-sub-k Inv-loop μ-loop
-sub-k c = omega (arith, c .before .before .before .before .before .before .if3 .left)
+sub-k c = omega (arith, c .before .before .before .if3 .left)
 
 put-byte-requires-3 : tie.Need-put-byte-requires-3 Inv-loop μ-loop
-put-byte-requires-3 c κs = (omega (arith, fits-to (climb-lists (c .before .before .before .before .before .before .before .before .before .before .before .before .before .before .before .before .before .before .before .before .before .before .before .before .before .before .before .before .before .before .before .pre) (c .before .before .before .before .before .before .before .before .before .before .before .before .before .before .before .before .before .before .before .before .before .before .before .put-byte .kept .0)) (c .before .before .before .before .before .before .before .before .before .before .before .before .before .before .before .before .before .before .before .before .loop .inv)), omega (arith, c .before .if4 .left, c .before .before .before .before .before .before .before .before .before .before .before .before .before .before .before .before .before .before .before .before .before .before .before .before .before .before .before .before .before .before .before .pre .lists .layers .nodes))
+put-byte-requires-3 c κs = (omega (arith, fits-to (climb-lists (c .before .before .before .before .before .before .before .before .before .before .before .before .before .before .before .before .before .before .before .before .before .before .before .before .before .pre) (c .before .before .before .before .before .before .before .before .before .before .before .before .before .before .before .before .before .put-byte .kept .0)) (c .before .before .before .before .before .before .before .before .before .before .before .before .before .before .loop .inv)), omega (arith, c .before .if4 .left, c .before .before .before .before .before .before .before .before .before .before .before .before .before .before .before .before .before .before .before .before .before .before .before .before .before .pre .lists .layers .nodes))
 
 loop-less-3 : tie.Need-loop-less-3 Inv-loop μ-loop
-loop-less-3 c = omega (arith, c .before .before .before .before .before .before .before .before .before .before .if3 .left)
+loop-less-3 c = omega (arith, c .before .before .before .before .before .before .before .if3 .left)
 
 loop-again-3 : tie.Need-loop-again-3 Inv-loop μ-loop
-loop-again-3 c = rw (c .before .before .put-byte3 .ensures, c .before .before .before .before .before .before .before .before .before .before .before .before .before .put-byte2 .ensures) (climb-up (climb-lists (c .before .before .before .before .before .before .before .before .before .before .before .before .before .before .before .before .before .before .before .before .before .before .before .before .before .before .before .before .before .before .before .before .before .before .pre) (c .before .before .before .before .before .before .before .before .before .before .before .before .before .before .before .before .before .before .before .before .before .before .before .before .before .before .put-byte .kept .0)) (c .before .before .before .before .before .before .before .before .before .before .before .before .before .before .before .before .before .before .before .before .before .before .before .loop .inv) (rw (c .before .before .before .before .before .before .before .before .before .before .before .before .before .before .before .before .before .before .before .before .set-at .ensures, c .before .before .before .before .before .before .before .before .before .before .before .before .before .before .before .before .before .before .set-at2 .ensures, c .before .before .before .before .before .before .before .before .before .before .before .before .before .before .before .before .before .before .before .before .before .byte .ensures .0) at (c .before .before .before .before .before .before .before .before .before .before .before .before .before .before .before .before .before .both .ensures)) (c .before .before .before .before .before .before .before .before .before .before .before .before .before .before .before .before .first .ensures) (c .before .before .before .before .before .before .before .before .before .before .before .before .before .before .before .if1 .left) (c .before .before .before .before .before .before .before .before .before .before .before .before .before .before .before .before .before .before .before .before .before .before .before .loop .k - 1) (omega (arith, c .before .before .before .before .before .before .before .before .before .before .if3 .left)) (rw (c .before .before .before .before .before .before .before .before .before .set-at4 .ensures, c .before .before .before .before .before .before .before .set-at5 .ensures) at (c .before .before .before .before .before .before .both2 .ensures)) (c .before .before .before .before .before .first2 .ensures) (c .before .before .before .before .if4 .left))
+loop-again-3 c = rw (c .before .before .put-byte3 .ensures, c .before .before .before .before .before .before .before .before .before .before .put-byte2 .ensures) (climb-up (climb-lists (c .before .before .before .before .before .before .before .before .before .before .before .before .before .before .before .before .before .before .before .before .before .before .before .before .before .before .before .before .pre) (c .before .before .before .before .before .before .before .before .before .before .before .before .before .before .before .before .before .before .before .before .put-byte .kept .0)) (c .before .before .before .before .before .before .before .before .before .before .before .before .before .before .before .before .before .loop .inv) (rw (c .before .before .before .before .before .before .before .before .before .before .before .before .before .before .before .byte .ensures .0) at (c .before .before .before .before .before .before .before .before .before .before .before .before .before .meeting .ensures)) (c .before .before .before .before .before .before .before .before .before .before .before .before .if1 .left) (c .before .before .before .before .before .before .before .before .before .before .before .before .before .before .before .before .before .loop .k - 1) (omega (arith, c .before .before .before .before .before .before .before .if3 .left)) (c .before .before .before .before .before .meeting2 .ensures) (c .before .before .before .before .if4 .left))
 
 pub climb-spec : {M : Type 1} → statement M
 climb-spec =
@@ -136,13 +106,8 @@ climb-spec =
     put-byte-requires
     loop-holds
     byte-requires
-    set-at-requires
-    set-at-requires-2
-    both-requires
-    first-requires
-    set-at-requires-3
-    without-requires
-    put-set-requires
+    meeting-requires
+    leave-requires
     same-length
     same-length-2
     same-length-3
@@ -157,14 +122,9 @@ climb-spec =
     same-length-7
     same-length-8
     returns-2
-    set-at-requires-4
-    sub-set-at
-    set-at-requires-5
-    both-requires-2
-    first-requires-2
-    set-at-requires-6
-    without-requires-2
-    put-set-requires-2
+    sub-meeting
+    meeting-requires-2
+    leave-requires-2
     loop-less-2
     loop-again-2
     sub-k
