@@ -16,7 +16,7 @@ use Rattle.growth.specs.Sides.{Sides}
 use Rattle.growth.proofs.Keeping.{kept-none, kept-join, kept-spent, spent-falls}
 use Rattle.layers.specs.Layers.{Layered, Apart, Meets}
 use Rattle.walks.specs.Paths.{Left, Thinned, weight, PathLists, CanClimb, Climbed, CanCarry, Carried, CanSend, Sent}
-use Rattle.walks.specs.Walks.{Roomy, LeftIfNone, CanSpend, Spent, CanWalk, Walked, CanDrain, Drained}
+use Rattle.walks.specs.Walks.{Roomy, LeftIfNone, CanSpend, Spent, CanDrain, Drained}
 use Rattle.walks.proofs.Thinning.{left-had, left-gone, thinned-join, thinned-weight, thinned-apart}
 use Rattle.walks.proofs.Sends.{follows-passes}
 
@@ -91,6 +91,26 @@ spent-roomy {n} {i} {j} {last} {x} {room} {room' = room'} {rows' = rows'} {colum
           let s : getD room' (n + c) 0 ≡ getD room (n + c) 0 = rw (S .cells) (getD-set-other rest (n + j) (n + c) y 0 (λ q. ne (omega arith)) ∙ getD-set-other room i (n + c) (getD room i 0 - x) 0 (λ q. omega (arith, C .row))) in
           omega (arith, s, R .ends c q (S .thinned .column last c e)));
     }
+
+-- a column of the last layer
+pub record CanWalk (n : ℕ) (bound a room offers takers rows columns at to : List ℕ) (e last : ℕ) : Type 0 where
+  pub sides : Sides n bound a offers takers
+  pub lists : PathLists n rows columns at to last
+  pub rooms : 2 * n ≤ length room
+  pub apart : Apart n columns last
+  pub roomy : Roomy n room rows columns last
+  pub column : e < n
+  pub in' : member e (getD columns last 0) ≡ 1
+
+-- something has gone along a path, or a node has left its layer; on the layers of a search something has gone
+pub record Walked (n : ℕ) (bound a room offers takers rows columns a' room' offers' takers' rows' columns' : List ℕ) (last : ℕ) : Type 0 where
+  pub sides : Sides n bound a' offers' takers'
+  pub kept : SpansKept n a room a' room'
+  pub apart : Apart n columns' last
+  pub roomy : Roomy n room' rows' columns' last
+  pub most : rowRoom n room' ≤ rowRoom n room
+  pub falls : rowRoom n room' + weight n rows' columns' last < rowRoom n room + weight n rows columns last
+  pub first : Layered n offers takers rows columns last → rowRoom n room' < rowRoom n room
 
 pub walk-climb : {n : ℕ} {bound a room offers takers rows columns at to : List ℕ} {e last : ℕ} → CanWalk n bound a room offers takers rows columns at to e last → CanClimb n offers takers rows columns at to e last
 walk-climb P = record { offered = P .sides .columns; taken = P .sides .rows; lists = P .lists; apart = P .apart; column = P .column; in' = P .in' }

@@ -7,7 +7,7 @@ use Rattle.nodes.specs.Sets.{member}
 use Rattle.growth.specs.Growth.{SpansKept, rowRoom}
 use Rattle.growth.specs.Sides.{Sides}
 use Rattle.layers.specs.Layers.{Layered, Apart, Meets}
-use Rattle.walks.specs.Paths.{PathLists, Thinned, weight}
+use Rattle.walks.specs.Paths.{PathLists, Thinned}
 
 -- the rows of the first layer have room, and so have the columns of the last
 pub record Roomy (n : ℕ) (room rows columns : List ℕ) (last : ℕ) : Type 0 where
@@ -36,25 +36,6 @@ pub record Spent (n : ℕ) (room rows columns room' rows' columns' : List ℕ) (
   pub thinned : Thinned rows columns rows' columns'
   pub row : getD room' i 0 ≡ 0 → member i (getD rows' 0 0) ≡ 0
   pub column : getD room' (n + j) 0 ≡ 0 → member j (getD columns' last 0) ≡ 0
-
-pub record CanWalk (n : ℕ) (bound a room offers takers rows columns at to : List ℕ) (e last : ℕ) : Type 0 where
-  pub sides : Sides n bound a offers takers
-  pub lists : PathLists n rows columns at to last
-  pub rooms : 2 * n ≤ length room
-  pub apart : Apart n columns last
-  pub roomy : Roomy n room rows columns last
-  pub column : e < n
-  pub in' : member e (getD columns last 0) ≡ 1
-
--- something has gone along a path, or a node has left its layer; on the layers of a search something has gone
-pub record Walked (n : ℕ) (bound a room offers takers rows columns a' room' offers' takers' rows' columns' : List ℕ) (last : ℕ) : Type 0 where
-  pub sides : Sides n bound a' offers' takers'
-  pub kept : SpansKept n a room a' room'
-  pub apart : Apart n columns' last
-  pub roomy : Roomy n room' rows' columns' last
-  pub most : rowRoom n room' ≤ rowRoom n room
-  pub falls : rowRoom n room' + weight n rows' columns' last < rowRoom n room + weight n rows columns last
-  pub first : Layered n offers takers rows columns last → rowRoom n room' < rowRoom n room
 
 -- the layers of a search that has found a column with room
 pub record CanDrain (n : ℕ) (bound a room offers takers rows columns at to : List ℕ) (last : ℕ) : Type 0 where

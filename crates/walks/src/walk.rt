@@ -6,7 +6,7 @@ use crate::send::send;
 use arrays::lists;
 ghost use Prim.Native.Nat.{_<_};
 ghost use lib.ListN.{length};
-ghost use Rattle.walks.specs.Walks.{LeftIfNone, CanSpend, Spent, CanWalk, Walked, CanDrain, Drained};
+ghost use Rattle.walks.specs.Walks.{LeftIfNone, CanSpend, Spent, CanDrain, Drained};
 
 // Node i leaves layer k where nothing is left.
 fn leave_if_none(layers: &mut [u64], k: usize, i: usize, left: u32)
@@ -39,33 +39,7 @@ fn spend(
     leave_if_none(columns, last, j, room[n + j]);
 }
 
-// Sends what can go to column e along one path; where there is none, e leaves its layer.
-fn walk(
-    n: usize,
-    bound: &[u32],
-    a: &mut [u32],
-    room: &mut [u32],
-    offers: &mut [u64],
-    takers: &mut [u64],
-    rows: &mut [u64],
-    columns: &mut [u64],
-    at: &mut [u8],
-    to: &mut [u8],
-    e: usize,
-    last: usize,
-)
-    requires { ⌜ CanWalk n (now bound) (now a) (now room) (now offers) (now takers) (now rows) (now columns) (now at) (now to) e last ⌝ }
-    ensures { λ _. ⌜ Walked n (now (bound .entry)) (now (a .entry)) (now (room .entry)) (now (offers .entry)) (now (takers .entry)) (now (rows .entry)) (now (columns .entry)) (now (a .exit)) (now (room .exit)) (now (offers .exit)) (now (takers .exit)) (now (rows .exit)) (now (columns .exit)) last ⌝ }
-{
-    if !climb(n, offers, takers, rows, columns, at, to, e, last) {
-        return;
-    }
-    let x = bottleneck(n, bound, a, room, at, to, e, last);
-    send(n, bound, a, offers, takers, at, to, e, last, x);
-    spend(n, room, rows, columns, lists::byte(at, 0), e, last, x);
-}
-
-// Walks until the last layer has no column left.
+// Until the last layer has no column left: sends what can go along one path to a column of it; one to which no path leads has left.
 pub fn drain(
     n: usize,
     bound: &[u32],
@@ -87,19 +61,11 @@ pub fn drain(
         if e >= n {
             return;
         }
-        walk(
-            n,
-            bound,
-            a,
-            room,
-            offers,
-            takers,
-            rows,
-            columns,
-            at,
-            to,
-            e,
-            last,
-        );
+        if !climb(n, offers, takers, rows, columns, at, to, e, last) {
+            continue;
+        }
+        let x = bottleneck(n, bound, a, room, at, to, e, last);
+        send(n, bound, a, offers, takers, at, to, e, last, x);
+        spend(n, room, rows, columns, lists::byte(at, 0), e, last, x);
     }
 }
