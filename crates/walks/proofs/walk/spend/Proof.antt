@@ -26,7 +26,7 @@ slice-read-room-2 : tie.Need-slice-read-room-2
 slice-read-room-2 c = rest-fits (c .before .before .before .before .before .pre)
 
 sub-room-2 : tie.Need-sub-room-2
-sub-room-2 c = rest-most (c .before .before .before .before .before .pre)
+sub-room-2 c = omega (arith, rest-most (c .before .before .before .before .before .pre))
 
 slice-write-room-2 : tie.Need-slice-write-room-2
 slice-write-room-2 c = rest-fits (c .before .before .before .before .before .pre)
