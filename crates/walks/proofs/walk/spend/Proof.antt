@@ -26,7 +26,7 @@ slice-read-room-2 : tie.Need-slice-read-room-2
 slice-read-room-2 c = rest-fits (c .before .before .before .before .before .pre)
 
 sub-room-2 : tie.Need-sub-room-2
-sub-room-2 c = omega (arith, rest-most (c .before .before .before .before .before .pre))
+sub-room-2 c = rest-most (c .before .before .before .before .before .pre)
 
 slice-write-room-2 : tie.Need-slice-write-room-2
 slice-write-room-2 c = rest-fits (c .before .before .before .before .before .pre)
@@ -38,7 +38,7 @@ slice-read-leave-if-none : tie.Need-slice-read-leave-if-none
 slice-read-leave-if-none c = spent-fits (c .before .before .before .before .before .before .before .pre) (omega (arith, c .before .before .before .before .before .before .before .pre .row))
 
 leave-if-none-requires : tie.Need-leave-if-none-requires
-leave-if-none-requires c κs = (c .before .before .before .before .before .before .before .pre .layers, omega (arith, c .before .before .before .before .before .before .before .pre .row, c .before .before .before .before .before .before .before .pre .few))
+leave-if-none-requires c κs = (c .before .before .before .before .before .before .before .pre .layers, omega (arith, c .before .before .before .before .before .before .before .pre .row, c .before .before .before .before .before .before .before .pre .column, c .before .before .before .before .before .before .before .pre .few))
 
 add-leave-if-none : tie.Need-add-leave-if-none
 add-leave-if-none c = omega (arith, c .before .before .before .before .before .before .before .before .before .before .before .pre .column, c .before .before .before .before .before .before .before .before .before .before .before .pre .few)
@@ -50,7 +50,7 @@ slice-read-leave-if-none-2 : tie.Need-slice-read-leave-if-none-2
 slice-read-leave-if-none-2 c = spent-fits (c .before .before .before .before .before .before .before .before .before .before .before .before .pre) (omega (arith, c .before .before .before .before .before .before .before .before .before .before .before .before .pre .column))
 
 leave-if-none-requires-2 : tie.Need-leave-if-none-requires-2
-leave-if-none-requires-2 c κs = (c .before .before .before .before .before .before .before .before .before .before .before .before .pre .others, omega (arith, c .before .before .before .before .before .before .before .before .before .before .before .before .pre .column, c .before .before .before .before .before .before .before .before .before .before .before .before .pre .few))
+leave-if-none-requires-2 c κs = (c .before .before .before .before .before .before .before .before .before .before .before .before .pre .others, omega (arith, c .before .before .before .before .before .before .before .before .before .before .before .before .pre .row, c .before .before .before .before .before .before .before .before .before .before .before .before .pre .column, c .before .before .before .before .before .before .before .before .before .before .before .before .pre .few))
 
 same-length : tie.Need-same-length
 same-length c = spent-len (c .before .before .before .before .before .before .before .before .before .before .before .before .before .before .before .pre)
