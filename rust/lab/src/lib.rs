@@ -210,7 +210,13 @@ mod tests {
     }
 
     fn largest(t: &mut Tables) {
-        super::largest(t.n, &t.demand, &mut t.capacity, &mut t.withdrawn, &mut t.marks);
+        super::largest(
+            t.n,
+            &t.demand,
+            &mut t.capacity,
+            &mut t.withdrawn,
+            &mut t.marks,
+        );
     }
 
     fn withdraw(t: &mut Tables) {
