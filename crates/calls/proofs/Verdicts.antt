@@ -9,62 +9,20 @@ use lib.ListN.{length, getD}
 use borrow.Author.Tests.{ltb-false, leb-false, le-ltb, lt-leb}
 use Rattle.sums.proofs.Searches.{first-ext}
 use Rattle.star.specs.declared.refusals.Refusal.{Refusal}
-use Rattle.star.specs.declared.refusals.Refusal.the-variants.{Nodes, Slots, Rule, QueueLimit, BooksDisagree, CallsSpent}
+use Rattle.star.specs.declared.refusals.Refusal.the-variants.{BooksDisagree, CallsSpent}
 use Rattle.star.specs.declared.refusals.Verdict.{Verdict}
 use Rattle.star.specs.declared.refusals.Verdict.the-variants.{Accepted, Refused}
-use Rattle.star.specs.Refusals.{refuse, nodesOut, slotsOut, ruleOut, limitOut, short, spent, someCell}
+use Rattle.star.specs.Refusals.{refuse, short, spent, someCell}
+use Rattle.star.specs.Checks.{Ranges}
 use Rattle.star.specs.Tables.{Square, Demands, Alike}
-use Rattle.star.proofs.RefusalLaws.{passes, never, passed, still-fires, still-passes, neither, neither-of, in-its-range, inside, sizes-fit, in-sizes, within-range, none-above}
+use Rattle.star.proofs.RefusalLaws.{passes, never, passed, still-fires, still-passes, neither, neither-of, ranges-fit, in-ranges, within-range, none-above}
 use Rattle.star.proofs.AlikeLaws.{alike-at, alike-above, both-long}
 use Rattle.books.specs.Books.{booksAgree, firstDisagreeing}
 use Rattle.books.specs.Rooms.{Tables}
 use Rattle.books.proofs.Agreements.{Agree, agreeing, none-disagreeing}
 use Rattle.calls.specs.declared.record.Run.{Run}
 use Rattle.calls.specs.Runs.{runShort, freshVerdict, postVerdict, frameVerdict}
-use Rattle.calls.specs.Checks.{rangesVerdict, booksVerdict, Ranges}
-
--- ---- 1, 2, 3, 7
-module _ (n l rule limit : ℕ) where
-  pub ranges-fire : {s : Refusal} {v : Verdict} (later : Verdict) → v ≡ rangesVerdict n l rule limit → v ≡ Refused s →
-      v ≡ refuse (nodesOut n) Nodes (refuse (slotsOut l) Slots (refuse (ruleOut rule) Rule (refuse (limitOut limit) QueueLimit later)))
-  unfolding rangesVerdict
-  ranges-fire later is fired =
-      fired ∙ sym (still-fires _ _ (still-fires _ _ (still-fires _ _ (still-fires _ _ (λ e. absurd (never (sym e)))))) (sym is ∙ fired))
-
-  pub ranges-pass : {v w later : Verdict} → v ≡ rangesVerdict n l rule limit → v ≡ Accepted → w ≡ later →
-      w ≡ refuse (nodesOut n) Nodes (refuse (slotsOut l) Slots (refuse (ruleOut rule) Rule (refuse (limitOut limit) QueueLimit later)))
-  unfolding rangesVerdict
-  ranges-pass is accepted e = still-passes _ _ (still-passes _ _ (still-passes _ _ (still-passes _ _ (λ _. e)))) (sym is ∙ accepted)
-
-  -- numbers in their ranges pass
-  pub ranges-fit : {v later : Verdict} → Ranges n l rule limit → v ≡ later →
-      v ≡ refuse (nodesOut n) Nodes (refuse (slotsOut l) Slots (refuse (ruleOut rule) Rule (refuse (limitOut limit) QueueLimit later)))
-  ranges-fit r e =
-      sizes-fit n l (record { some-nodes = r .some-nodes; nodes = r .nodes; some-slots = r .some-slots; slots = r .slots })
-      (passes Rule (le-ltb 1 rule (r .known-rule)) (passes QueueLimit (inside 1 65535 limit (r .some-room) (r .room)) e))
-
-  pub in-ranges : {later : Verdict} → refuse (nodesOut n) Nodes (refuse (slotsOut l) Slots (refuse (ruleOut rule) Rule (refuse (limitOut limit) QueueLimit later))) ≡ Accepted →
-      (Ranges n l rule limit) × (later ≡ Accepted)
-  in-ranges e =
-      let a = in-sizes n l e in
-      let c = passed _ _ _ (a .1) in
-      let d = passed _ _ _ (c .1) in
-      let room = in-its-range 1 65535 limit (d .0) in (
-        record {
-          some-nodes = a .0 .some-nodes;
-          nodes = a .0 .nodes;
-          some-slots = a .0 .some-slots;
-          slots = a .0 .slots;
-          known-rule = ltb-false 1 rule (c .0);
-          some-room = room .0;
-          room = room .1;
-        },
-        d .1,
-      )
-
-  pub ranged : {v : Verdict} → v ≡ rangesVerdict n l rule limit → v ≡ Accepted → Ranges n l rule limit
-  unfolding rangesVerdict
-  ranged is accepted = in-ranges (sym is ∙ accepted) .0
+use Rattle.calls.specs.Checks.{booksVerdict}
 
 -- ---- 5
 long-enough : (room needed : ℕ) → short room needed ≡ false → needed ≤ room

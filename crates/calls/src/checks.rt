@@ -1,35 +1,12 @@
 // The checks that the entries of a run share, in document 01's order.
 use books::agreement::first_disagreeing;
-use star::checks::outside;
-use star::checks::sizes;
 use star::refusals::Refusal;
 use star::refusals::Verdict;
 ghost use mathlib.Core.Path.{_≡_};
 ghost use Prim.Native.Nat.{_≤_};
 ghost use Rattle.books.specs.Rooms.{Tables};
 ghost use Rattle.calls.specs.Runs.{runShort};
-ghost use Rattle.calls.specs.Checks.{rangesVerdict, booksVerdict};
-
-// N (1), L (2), the rule (3) and B (7).
-pub fn ranges(nodes: u32, slots: u32, rule: u32, limit: u32) -> Verdict
-    ensures { λ v. ⌜ v ≡ rangesVerdict nodes slots rule limit ⌝ }
-{
-    let v = sizes(nodes, slots);
-    let Verdict::Accepted = v else {
-        return v;
-    };
-    if rule > 1 {
-        return Verdict::Refused {
-            refusal: Refusal::Rule,
-        };
-    }
-    if outside(1, 65535, limit) {
-        return Verdict::Refused {
-            refusal: Refusal::QueueLimit,
-        };
-    }
-    v
-}
+ghost use Rattle.calls.specs.Checks.{booksVerdict};
 
 // Whether any of a run's four tables is too short, given how many cells each has.
 pub fn short(n: usize, waiting: usize, posted: usize, sent: usize, dropped: usize) -> bool

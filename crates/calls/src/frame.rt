@@ -1,6 +1,5 @@
 // What `frame` does: a frame is planned from the queues and sent.
 use crate::checks::books;
-use crate::checks::ranges;
 use crate::checks::short;
 use crate::record::Run;
 use books::amounts::add;
@@ -8,6 +7,7 @@ use books::queues::dequeue;
 use planner::answers::Answer;
 use planner::checks::plan_short;
 use planner::plans::write_whole;
+use star::checks::ranges;
 use star::refusals::Refusal;
 use star::refusals::Verdict;
 ghost use mathlib.Core.Path.{_≡_};

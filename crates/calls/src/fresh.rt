@@ -1,8 +1,8 @@
 // What `fresh` does: a run starts.
-use crate::checks::ranges;
 use crate::checks::short;
 use crate::record::Run;
 use books::amounts;
+use star::checks::ranges;
 use star::refusals::Refusal;
 use star::refusals::Verdict;
 use star::tables;

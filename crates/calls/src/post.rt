@@ -1,11 +1,11 @@
 // What `post` does: arrivals come to the queues.
 use crate::checks::books;
-use crate::checks::ranges;
 use crate::checks::short;
 use crate::record::Run;
 use books::amounts::add;
 use books::queues::drop_excess;
 use books::queues::enqueue;
+use star::checks::ranges;
 use star::lines::first_above;
 use star::refusals::Refusal;
 use star::refusals::Verdict;

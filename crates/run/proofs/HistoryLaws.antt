@@ -1,5 +1,5 @@
 -- The theorem on a run's books, from what holds at every moment of its history: the books agree, so that refusal 8 cannot come; and what an accepted
--- frame plans from is the queue, so that the least rule's plan sends the most. Assumes nothing.
+-- frame plans from is the queue, so that the least rule's plan sends the most. And a call finds what it asks. Assumes nothing.
 use Prim.Native.Nat.{ℕ, _*_, _/_, _%_, _≤_, _<_}
 use native.Mathlib.Nat.{le-of-eq}
 use native.Mathlib.Omega.{arith}
@@ -22,8 +22,9 @@ use Rattle.planner.specs.Plans.{verdictOf}
 use Rattle.books.specs.Books.{firstDisagreeing}
 use Rattle.books.proofs.Agreements.{Agree, none-disagreeing}
 use Rattle.calls.specs.Runs.{freshVerdict, postVerdict, frameVerdict}
-use Rattle.run.specs.Held.{Held, FreshCall, PostCall, FrameCall}
+use Rattle.run.specs.Held.{Held, LongEnough, FreshCall, PostCall, FrameCall}
 use Rattle.run.specs.Histories.{Lent, Event, posting, framing, restarting, outcome, Happens, History, continued, queue, SendsMost, BooksHold}
+use Rattle.run.specs.Theorems.{BooksInOrder, Callable}
 use Rattle.calls.proofs.Verdicts.{frame-accepted}
 use Rattle.run.proofs.SentLaws.{plan-most, met-ext}
 use Rattle.run.proofs.Moments.{Now, always, planned, sent-waited}
@@ -151,4 +152,18 @@ module _ {n l limit rule : ℕ} where
     most = λ least later earlier lent plan r split accepted.
         let m = between later earlier (framing lent plan r) (subst (λ x. History n l limit rule x h) split past) in
         sends-most lent plan r (always (m .2)) (m .3) accepted least;
+  }
+
+  -- at every moment what is held is as a call asks
+  pub always-callable : {es : List Event} {h : Held} → History n l limit rule es h → Callable h
+  always-callable {h = h} past = let now = always past in record {
+    ranges = rw (now .nodes, now .slots, now .rules, now .room) (now .ranges);
+    long-enough = subst (λ m. LongEnough m h) (sym (now .nodes)) (now .long-enough);
+    books-in-order =
+        subst (λ m. BooksInOrder m h) (sym (now .nodes))
+        (record {
+          queued = λ p lt. omega (arith, all-agree now p lt .short-enough, now .room);
+          balanced = λ p lt. all-agree now p lt .balance;
+          possible = λ p lt. all-agree now p lt .possible;
+        });
   }

@@ -11,12 +11,12 @@ use Rattle.sums.specs.Tables.{cell, tab, written}
 use Rattle.sums.proofs.Tables.{cell-lt, length-tab, tab-at, written-at, written-room}
 use Rattle.star.specs.declared.refusals.Refusal.{Refusal}
 use Rattle.star.specs.declared.refusals.Verdict.the-variants.{Accepted, Refused}
+use Rattle.star.specs.Checks.{Ranges}
 use Rattle.star.specs.Lines.{wholeFrame}
 use Rattle.star.specs.Schedules.{count}
 use Rattle.planner.specs.declared.answers.Answer.the-variants as answer
 use Rattle.planner.specs.Plans.{Wrote}
 use Rattle.calls.specs.Runs.{freshRun, cleared, postRun, postPosted, postDropped, postWaiting, frameRun}
-use Rattle.calls.specs.Checks.{Ranges}
 use Rattle.run.specs.Held.{Held, LongEnough, FreshCall, PostCall, FrameCall}
 use Rattle.run.specs.Histories.{Lent, Event, posting, framing, restarting, Happens, History, started, continued, arrived, carried, queue, exceeded, postsOf, framesOf}
 use Rattle.calls.proofs.Verdicts.{fresh-accepted, post-accepted}

@@ -6,11 +6,11 @@ use lib.ListN.{length, getD, take}
 use Rattle.star.specs.declared.refusals.Refusal.{Refusal}
 use Rattle.star.specs.declared.refusals.Verdict.{Verdict}
 use Rattle.star.specs.declared.refusals.Verdict.the-variants.{Accepted, Refused}
+use Rattle.star.specs.Checks.{Ranges}
 use Rattle.star.specs.Tables.{Alike}
 use Rattle.planner.specs.declared.answers.Answer.{Answer}
 use Rattle.planner.specs.Plans.{verdictOf, keptTotal, refusedTotal, PlanResult}
 use Rattle.calls.specs.declared.record.Run.{Run}
-use Rattle.calls.specs.Checks.{Ranges}
 use Rattle.calls.specs.Runs.{Framed}
 use Rattle.run.specs.Held.{Held, LongEnough, FreshCall, PostCall, FrameCall}
 

@@ -11,23 +11,24 @@ use lib.IntN.{pos, negsuc}
 use Rattle.sums.specs.Sums.{sumTo, hit}
 use Rattle.sums.specs.Searches.{firstBelow, firstFrom, someBelow}
 use Rattle.sums.specs.Tables.{cell, tab, square}
-use Rattle.star.specs.declared.refusals.Refusal.the-variants.{Nodes, Slots, Rule, DemandShort, TableShort, DemandAbove, QueueLimit, BooksDisagree, CallsSpent}
+use Rattle.star.specs.declared.refusals.Refusal.the-variants.{Nodes, Slots, Rule, DemandShort, TableShort, DemandAbove, QueueLimit, BooksDisagree, CallsSpent, BadFile}
 use Rattle.star.specs.declared.refusals.Verdict.the-variants.{Accepted, Refused}
 use Rattle.star.specs.Lines.{sourceOn, destinationOn, onLine, lineSum, total, wholeFrame, slack, overflows, excess, critical, Admissible}
 use Rattle.star.specs.Refusals.{refusalNumber, refusalPlace, verdictNumber, verdictPlace, refuse, nodesOut, slotsOut, ruleOut, limitOut, short, spent, someCell, firstAbove}
-use Rattle.star.specs.Checks.{sizesVerdict}
+use Rattle.star.specs.Checks.{sizesVerdict, rangesVerdict}
 use Rattle.star.specs.Schedules.{ConflictFree, count, refusedBy, differ, reconfigurations}
 
 -- ---- what is refused
 -- 1 N outside its range; 2 L outside its range; 3 rule neither 0 nor 1; 4 demand or arrivals shorter than N×N; 5 a table too short; 6 a demand or
--- arrival above 65,535; 7 B outside its range; 8 a pair's books disagree; 9 this kind of call already accepted 1,000,000 times or more.
-numbers : map refusalNumber (Nodes ∷ Slots ∷ Rule ∷ DemandShort ∷ TableShort ∷ DemandAbove 3 ∷ QueueLimit ∷ BooksDisagree 4 ∷ CallsSpent ∷ [])
-    ≡ 1 ∷ 2 ∷ 3 ∷ 4 ∷ 5 ∷ 6 ∷ 7 ∷ 8 ∷ 9 ∷ []
+-- arrival above 65,535; 7 B outside its range; 8 a pair's books disagree; 9 this kind of call already accepted 1,000,000 times or more; 10 a
+-- scenario file that is not in order.
+numbers : map refusalNumber (Nodes ∷ Slots ∷ Rule ∷ DemandShort ∷ TableShort ∷ DemandAbove 3 ∷ QueueLimit ∷ BooksDisagree 4 ∷ CallsSpent ∷ BadFile 5 ∷ [])
+    ≡ 1 ∷ 2 ∷ 3 ∷ 4 ∷ 5 ∷ 6 ∷ 7 ∷ 8 ∷ 9 ∷ 10 ∷ []
 numbers = refl
 
--- Place 0, and for 6 and 8 the cell.
-places : map refusalPlace (Nodes ∷ Slots ∷ Rule ∷ DemandShort ∷ TableShort ∷ DemandAbove 3 ∷ QueueLimit ∷ BooksDisagree 4 ∷ CallsSpent ∷ [])
-    ≡ 0 ∷ 0 ∷ 0 ∷ 0 ∷ 0 ∷ 3 ∷ 0 ∷ 4 ∷ 0 ∷ []
+-- Place 0, for 6 and 8 the cell, and for 10 the entry.
+places : map refusalPlace (Nodes ∷ Slots ∷ Rule ∷ DemandShort ∷ TableShort ∷ DemandAbove 3 ∷ QueueLimit ∷ BooksDisagree 4 ∷ CallsSpent ∷ BadFile 5 ∷ [])
+    ≡ 0 ∷ 0 ∷ 0 ∷ 0 ∷ 0 ∷ 3 ∷ 0 ∷ 4 ∷ 0 ∷ 5 ∷ []
 places = refl
 
 -- An accepted call reports number 0 and place 0; a refused one its refusal's.
@@ -75,6 +76,17 @@ sizes-order = refl
 sizes-accepted : sizesVerdict 1 1 ∷ sizesVerdict 64 1024 ∷ [] ≡ Accepted ∷ Accepted ∷ []
 unfolding sizesVerdict refuse
 sizes-accepted = refl
+
+-- The checks run in the order 1, 2, 3, 7: the first of two neighbours is given, and B 0 with rule 2 is 3.
+ranges-order :
+    map verdictNumber (rangesVerdict 0 0 2 0 ∷ rangesVerdict 1 0 2 0 ∷ rangesVerdict 1 1 2 0 ∷ rangesVerdict 1 1 1 0 ∷ rangesVerdict 1 1 0 65536 ∷ []) ≡ 1 ∷ 2 ∷ 3 ∷ 7 ∷ 7 ∷ []
+unfolding rangesVerdict refuse
+ranges-order = refl
+
+-- both ends of all ranges
+ranges-accepted : rangesVerdict 1 1 0 1 ∷ rangesVerdict 64 1024 1 65535 ∷ [] ≡ Accepted ∷ Accepted ∷ []
+unfolding rangesVerdict refuse
+ranges-accepted = refl
 
 -- One demand or arrival is 0 to 65,535: four cells of 65,535 have no bad one.
 above-none : firstAbove 2 (65535 ∷ 65535 ∷ 65535 ∷ 65535 ∷ []) ≡ 4

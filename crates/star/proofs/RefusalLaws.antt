@@ -11,12 +11,12 @@ use lib.Dec.{ltb}
 use borrow.Author.Tests.{lt-ltb, le-ltb, ltb-false}
 use Rattle.sums.proofs.Searches.{first-none, first-before}
 use Rattle.star.specs.declared.refusals.Refusal.{Refusal}
-use Rattle.star.specs.declared.refusals.Refusal.the-variants.{Nodes, Slots}
+use Rattle.star.specs.declared.refusals.Refusal.the-variants.{Nodes, Slots, Rule, QueueLimit}
 use Rattle.star.specs.declared.refusals.Verdict.{Verdict}
 use Rattle.star.specs.declared.refusals.Verdict.the-variants.{Accepted, Refused}
 use Rattle.star.specs.Tables.{Demands}
-use Rattle.star.specs.Refusals.{Notice, noticeOf, check, refusalNumber, refusalPlace, refuse, outside, nodesOut, slotsOut, someCell, firstAbove}
-use Rattle.star.specs.Checks.{sizesVerdict}
+use Rattle.star.specs.Refusals.{Notice, noticeOf, check, refusalNumber, refusalPlace, refuse, outside, nodesOut, slotsOut, someCell, firstAboveIn, firstAbove}
+use Rattle.star.specs.Checks.{sizesVerdict, rangesThen, rangesVerdict, Ranges}
 
 pub fires : {b : Bool} {r : Refusal} (later : Verdict) → b ≡ true → Refused r ≡ refuse b r later
 unfolding refuse
@@ -111,12 +111,59 @@ module _ (n l : ℕ) where
   unfolding sizesVerdict
   sized is accepted = in-sizes (sym is ∙ accepted) .0
 
--- ---- where no demand is above 65,535, each is within its range
+-- ---- 1, 2, 3, 7
+module _ (n l rule limit : ℕ) where
+  pub ranges-fire : {s : Refusal} {v : Verdict} (later : Verdict) → v ≡ rangesVerdict n l rule limit → v ≡ Refused s → v ≡ rangesThen n l rule limit later
+  unfolding rangesVerdict
+  ranges-fire later is fired =
+      fired ∙ sym (still-fires _ _ (still-fires _ _ (still-fires _ _ (still-fires _ _ (λ e. absurd (never (sym e)))))) (sym is ∙ fired))
+
+  pub ranges-pass : {v w later : Verdict} → v ≡ rangesVerdict n l rule limit → v ≡ Accepted → w ≡ later → w ≡ rangesThen n l rule limit later
+  unfolding rangesVerdict
+  ranges-pass is accepted e = still-passes _ _ (still-passes _ _ (still-passes _ _ (still-passes _ _ (λ _. e)))) (sym is ∙ accepted)
+
+  -- numbers in their ranges pass
+  pub ranges-fit : {v later : Verdict} → Ranges n l rule limit → v ≡ later → v ≡ rangesThen n l rule limit later
+  ranges-fit r e =
+      sizes-fit n l (record { some-nodes = r .some-nodes; nodes = r .nodes; some-slots = r .some-slots; slots = r .slots })
+      (passes Rule (le-ltb 1 rule (r .known-rule)) (passes QueueLimit (inside 1 65535 limit (r .some-room) (r .room)) e))
+
+  pub in-ranges : {later : Verdict} → rangesThen n l rule limit later ≡ Accepted →
+      (Ranges n l rule limit) × (later ≡ Accepted)
+  in-ranges e =
+      let a = in-sizes n l e in
+      let c = passed _ _ _ (a .1) in
+      let d = passed _ _ _ (c .1) in
+      let room = in-its-range 1 65535 limit (d .0) in (
+        record {
+          some-nodes = a .0 .some-nodes;
+          nodes = a .0 .nodes;
+          some-slots = a .0 .some-slots;
+          slots = a .0 .slots;
+          known-rule = ltb-false 1 rule (c .0);
+          some-room = room .0;
+          room = room .1;
+        },
+        d .1,
+      )
+
+  pub ranged : {v : Verdict} → v ≡ rangesVerdict n l rule limit → v ≡ Accepted → Ranges n l rule limit
+  unfolding rangesVerdict
+  ranged is accepted = in-ranges (sym is ∙ accepted) .0
+
+-- ---- where no cell is above 65,535, each is within its range
+pub each-within : (count : ℕ) (cells : List ℕ) → count ≤ firstAboveIn count cells → (p : ℕ) → p < count → getD cells p 0 ≤ 65535
+each-within count cells h p lt = ltb-false 65535 (getD cells p 0) (first-before (λ q. ltb 65535 (getD cells q 0)) count p (omega arith))
+
 pub within-range : (n : ℕ) (d : List ℕ) → n * n ≤ firstAbove n d → Demands n d
 unfolding firstAbove
-within-range n d h = record { most = λ p lt. ltb-false 65535 (getD d p 0) (first-before (λ q. ltb 65535 (getD d q 0)) (n * n) p (omega arith)) }
+within-range n d h = record { most = each-within (n * n) d h }
 
 -- ---- and where each is within its range, none is found above it
+pub none-above-in : (count : ℕ) (cells : List ℕ) → ((p : ℕ) → p < count → getD cells p 0 ≤ 65535) → someCell count (firstAboveIn count cells) ≡ false
+none-above-in count cells most =
+    le-ltb _ _ (le-of-eq (sym (first-none (λ q. ltb 65535 (getD cells q 0)) count (λ q lt. le-ltb 65535 (getD cells q 0) (most q lt)))))
+
 pub none-above : (n : ℕ) (d : List ℕ) → ((p : ℕ) → p < n * n → getD d p 0 ≤ 65535) → someCell (n * n) (firstAbove n d) ≡ false
 unfolding firstAbove
-none-above n d most = le-ltb _ _ (le-of-eq (sym (first-none (λ q. ltb 65535 (getD d q 0)) (n * n) (λ q lt. le-ltb 65535 (getD d q 0) (most q lt)))))
+none-above n d most = none-above-in (n * n) d most

@@ -6,11 +6,11 @@ use lib.ListN.{getD}
 use lib.Dec.{ltb, leb}
 use Rattle.sums.specs.Searches.{firstBelow}
 use Rattle.star.specs.declared.refusals.Refusal.{Refusal}
-use Rattle.star.specs.declared.refusals.Refusal.the-variants.{Nodes, Slots, Rule, DemandShort, TableShort, DemandAbove, QueueLimit, BooksDisagree, CallsSpent}
+use Rattle.star.specs.declared.refusals.Refusal.the-variants.{Nodes, Slots, Rule, DemandShort, TableShort, DemandAbove, QueueLimit, BooksDisagree, CallsSpent, BadFile}
 use Rattle.star.specs.declared.refusals.Verdict.{Verdict}
 use Rattle.star.specs.declared.refusals.Verdict.the-variants.{Accepted, Refused}
 
--- the table's column "No."
+-- the table's column "No.", and request 101's 10
 abbrev pub refusalNumber : Refusal → ℕ
 refusalNumber Nodes = 1
 refusalNumber Slots = 2
@@ -21,8 +21,9 @@ refusalNumber (DemandAbove c) = 6
 refusalNumber QueueLimit = 7
 refusalNumber (BooksDisagree c) = 8
 refusalNumber CallsSpent = 9
+refusalNumber (BadFile e) = 10
 
--- the table's column "Place": 0, or the cell
+-- the table's column "Place": 0, or the cell; for 10 the entry of the file
 abbrev pub refusalPlace : Refusal → ℕ
 refusalPlace Nodes = 0
 refusalPlace Slots = 0
@@ -33,6 +34,7 @@ refusalPlace (DemandAbove c) = c
 refusalPlace QueueLimit = 0
 refusalPlace (BooksDisagree c) = c
 refusalPlace CallsSpent = 0
+refusalPlace (BadFile e) = e
 
 -- An accepted call reports number 0 and place 0.
 abbrev pub verdictNumber : Verdict → ℕ
@@ -101,6 +103,10 @@ spent calls = leb 1000000 calls
 abbrev pub someCell : (m first : ℕ) → Bool
 someCell m first = ltb first m
 
+-- the first of so many cells that is above 65,535, or their number
+abbrev pub firstAboveIn : (count : ℕ) (cells : List ℕ) → ℕ
+firstAboveIn count cells = firstBelow count (λ p. ltb 65535 (getD cells p 0))
+
 -- A demand or arrival above 65,535; the first such cell in row order gives the place. Here that cell, or N×N where there is none.
 unfoldable pub firstAbove : (n : ℕ) (d : List ℕ) → ℕ
-firstAbove n d = firstBelow (n * n) (λ p. ltb 65535 (getD d p 0))
+firstAbove n d = firstAboveIn (n * n) d

@@ -2,7 +2,7 @@
 ghost use mathlib.Core.Path.{_≡_};
 ghost use Rattle.star.specs.Refusals.{verdictNumber, verdictPlace};
 
-// Document 01's refusals, in the order of their numbers.
+// The refusals of documents 01 and 02, in the order of their numbers.
 pub enum Refusal {
     Nodes,
     Slots,
@@ -13,6 +13,7 @@ pub enum Refusal {
     QueueLimit,
     BooksDisagree { cell: u32 },
     CallsSpent,
+    BadFile { entry: u32 },
 }
 
 // What a call that reports no totals answers.
@@ -21,7 +22,7 @@ pub enum Verdict {
     Refused { refusal: Refusal },
 }
 
-// The number that document 01 gives a verdict: 0 for an accepted call.
+// The number that the documents give a verdict: 0 for an accepted call.
 pub fn number(v: Verdict) -> u32
     ensures { λ r. ⌜ r ≡ verdictNumber v ⌝ }
 {
@@ -37,11 +38,12 @@ pub fn number(v: Verdict) -> u32
             Refusal::QueueLimit => 7,
             Refusal::BooksDisagree { cell: _ } => 8,
             Refusal::CallsSpent => 9,
+            Refusal::BadFile { entry: _ } => 10,
         },
     }
 }
 
-// The place that document 01 gives a verdict: the cell for two of the refusals, else 0.
+// The place that the documents give a verdict: the cell for two of the refusals, the entry for a file, else 0.
 pub fn place(v: Verdict) -> u32
     ensures { λ r. ⌜ r ≡ verdictPlace v ⌝ }
 {
@@ -57,6 +59,7 @@ pub fn place(v: Verdict) -> u32
             Refusal::QueueLimit => 0,
             Refusal::BooksDisagree { cell } => cell,
             Refusal::CallsSpent => 0,
+            Refusal::BadFile { entry } => entry,
         },
     }
 }

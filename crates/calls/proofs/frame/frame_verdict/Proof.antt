@@ -1,10 +1,10 @@
 -- `frame_verdict` meets its contract: the shared checks and its own, in their order. Assumes nothing.
 use mathlib.Core.Path.{sym, _∙_}
 use borrow.Author.Needs.{needs}
-use Rattle.star.proofs.RefusalLaws.{fires, passes, first-of, second-of, neither}
+use Rattle.star.proofs.RefusalLaws.{fires, passes, first-of, second-of, neither, ranges-fire, ranges-pass, ranged}
 use Rattle.calls.specs.Checks.{booksVerdict}
 use Rattle.calls.specs.Runs.{frameVerdict}
-use Rattle.calls.proofs.Verdicts.{ranges-fire, ranges-pass, ranged, long-tables}
+use Rattle.calls.proofs.Verdicts.{long-tables}
 use Rattle.calls.proofs.frame.frame_verdict.Statement.{statement}
 use Rattle.calls.proofs.frame.frame_verdict.Tie as tie
 

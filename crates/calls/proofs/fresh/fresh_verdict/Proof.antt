@@ -1,9 +1,8 @@
 -- `fresh_verdict` meets its contract: the shared checks, then its own. Assumes nothing.
 use mathlib.Core.Path.{sym, _∙_}
 use borrow.Author.Needs.{needs}
-use Rattle.star.proofs.RefusalLaws.{fires, passes}
+use Rattle.star.proofs.RefusalLaws.{fires, passes, ranges-fire, ranges-pass, ranged}
 use Rattle.calls.specs.Runs.{freshVerdict}
-use Rattle.calls.proofs.Verdicts.{ranges-fire, ranges-pass, ranged}
 use Rattle.calls.proofs.fresh.fresh_verdict.Statement.{statement}
 use Rattle.calls.proofs.fresh.fresh_verdict.Tie as tie
 

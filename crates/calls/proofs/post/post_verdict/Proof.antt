@@ -4,9 +4,9 @@ use mathlib.Core.Path.{sym, _∙_}
 use borrow.Author.Tests.{lt-ltb, le-ltb}
 use borrow.Author.Needs.{needs}
 use Rattle.sums.proofs.Tables.{mul-small}
-use Rattle.star.proofs.RefusalLaws.{fires, passes}
+use Rattle.star.proofs.RefusalLaws.{fires, passes, ranges-fire, ranges-pass, ranged}
 use Rattle.calls.specs.Runs.{postVerdict}
-use Rattle.calls.proofs.Verdicts.{ranges-fire, ranges-pass, ranged, books-fire, books-pass, long-tables}
+use Rattle.calls.proofs.Verdicts.{books-fire, books-pass, long-tables}
 use Rattle.calls.proofs.post.post_verdict.Statement.{statement}
 use Rattle.calls.proofs.post.post_verdict.Tie as tie
 

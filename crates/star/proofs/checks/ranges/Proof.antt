@@ -2,10 +2,10 @@
 use mathlib.Core.Path.{sym, _∙_}
 use borrow.Author.Needs.{needs}
 use borrow.Author.Tests.{lt-ltb, le-ltb}
+use Rattle.star.specs.Checks.{rangesVerdict}
 use Rattle.star.proofs.RefusalLaws.{fires, passes, sizes-fire, sizes-pass}
-use Rattle.calls.specs.Checks.{rangesVerdict}
-use Rattle.calls.proofs.checks.ranges.Statement.{statement}
-use Rattle.calls.proofs.checks.ranges.Tie as tie
+use Rattle.star.proofs.checks.ranges.Statement.{statement}
+use Rattle.star.proofs.checks.ranges.Tie as tie
 
 sizes-requires : tie.Need-sizes-requires
 sizes-requires c κs = search needs

@@ -1,0 +1,2 @@
+-- The laws of what an accepted file has passed.
+pub mod ReadLaws
