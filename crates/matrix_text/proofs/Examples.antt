@@ -9,7 +9,7 @@ use Rattle.sums.specs.Searches.{firstBelow, firstFrom}
 use Rattle.sums.specs.Tables.{cell}
 use Rattle.star.specs.Lines.{total}
 use Rattle.star.specs.Refusals.{firstAbove}
-use Rattle.number_list.specs.Bytes.{bytes}
+use Rattle.pieces.specs.Bytes.{bytes}
 use Rattle.number_list.specs.Input.{listOf, numbersOf, wordsFrom, isNumber, allDigits, valueFrom}
 use Rattle.matrix_text.specs.Text.{decimal, digitsIn, joinTo, named, refusalText, headText, totalsText, cellText, rowText, rowsText, planText}
 use Rattle.matrix_text.specs.Outcomes.{BadInput, outcome, judgeList, judge, outcomeText}

@@ -12,7 +12,7 @@ use borrow.Author.Tests.{lt-ltb, le-ltb}
 use Rattle.sums.specs.Tables.{cell, written}
 use Rattle.sums.proofs.Cases.{by-lt}
 use Rattle.sums.proofs.Tables.{mul-small}
-use Rattle.number_list.specs.Bytes.{bytes}
+use Rattle.pieces.specs.Bytes.{bytes}
 use Rattle.matrix_text.specs.Text.{decimal, digitsIn, joinTo, named, refusalText, headText, totalsText, cellText, rowText, rowsText, planText, room}
 use Rattle.matrix_text.specs.Writes.{Appended}
 

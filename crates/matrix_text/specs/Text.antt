@@ -4,7 +4,7 @@ use mathlib.Core.Bool.{true, false, cond}
 use mathlib.Core.List.{List, [], _∷_, _++_}
 use lib.Dec.{ltb, eqb}
 use Rattle.sums.specs.Tables.{cell}
-use Rattle.number_list.specs.Bytes.{bytes}
+use Rattle.pieces.specs.Bytes.{bytes}
 
 -- the decimal digits of n in as many turns as are given, a digit each
 unfoldable pub digitsIn : (turns n : ℕ) → List ℕ

@@ -4,7 +4,7 @@ use Prim.Native.String.{String}
 use mathlib.Core.Path.{_≡_, refl}
 use mathlib.Core.List.{List, [], _∷_}
 use mathlib.Core.Option.{none, some}
-use Rattle.number_list.specs.Bytes.{bytes}
+use Rattle.pieces.specs.Bytes.{bytes}
 use Rattle.number_list.specs.Input.{listOf, numbersOf, wordsFrom, isNumber, allDigits, valueFrom}
 
 -- the input is a list, of these numbers
@@ -16,8 +16,6 @@ abbrev junk : String → Type 0
 junk input = listOf (bytes input) ≡ none
 
 record Examples : Type 0 where
-  -- the bytes of a text
-  as-bytes : bytes "09 \naz" ≡ 48 ∷ 57 ∷ 32 ∷ 10 ∷ 97 ∷ 122 ∷ []
   -- a number has 1 to 9 digits; leading zeros are digits too
   one-digit : reads "0" (0 ∷ [])
   nine-digits : reads "999999999" (999999999 ∷ [])
@@ -54,7 +52,6 @@ record Examples : Type 0 where
 examples : Examples
 unfolding listOf numbersOf wordsFrom isNumber allDigits valueFrom
 examples = record {
-  as-bytes = refl;
   one-digit = refl;
   nine-digits = refl;
   nine-with-zeros = refl;

@@ -1,4 +1,3 @@
 -- Lists of decimal numbers, and what reading one gives.
-pub mod Bytes
 pub mod Input
 pub mod Reads
