@@ -1,7 +1,7 @@
 -- `four` meets its contract: two numbers of two bytes. Assumes nothing.
-use Rattle.files.specs.Format.{four}
 use native.Mathlib.Omega.{arith}
 use borrow.Author.Needs.{needs}
+use Rattle.files.specs.Format.{four}
 use Rattle.files.proofs.numbers.four.Statement.{statement}
 use Rattle.files.proofs.numbers.four.Tie as tie
 

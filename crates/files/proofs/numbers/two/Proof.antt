@@ -1,9 +1,9 @@
 -- `two` meets its contract: a byte is below 256, so that nothing wraps. Assumes nothing.
-use Rattle.files.specs.Format.{two}
 use Prim.Native.Nat.{_+_}
-use mathlib.Core.Path.{refl}
 use native.Mathlib.Omega.{arith}
+use mathlib.Core.Path.{refl}
 use borrow.Author.Needs.{needs}
+use Rattle.files.specs.Format.{two}
 use Rattle.files.proofs.numbers.two.Statement.{statement}
 use Rattle.files.proofs.numbers.two.Tie as tie
 

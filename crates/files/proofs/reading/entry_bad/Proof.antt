@@ -1,15 +1,15 @@
 -- `entry_bad` meets its contract, by the kind; a place of 32 bits and a matrix of at most 8,192 bytes do not wrap in 64. Assumes nothing.
-use Rattle.files.proofs.ReadLaws.{frame-bad, kind-bad, post-low, post-high}
-use Rattle.files.specs.Reading.{entryBad}
-use Rattle.files.specs.Format.{kindOf, placeOf}
-use Rattle.sums.proofs.Tables.{mul-small}
-use lib.ListN.{length}
-use lib.Dec.{ltb, eqb}
 use Prim.Native.Nat.{_+_, _*_}
-use mathlib.Core.Bool.{not}
-use mathlib.Core.Path.{sym, _∙_, ap}
 use native.Mathlib.Omega.{arith}
+use mathlib.Core.Path.{sym, _∙_, ap}
+use mathlib.Core.Bool.{not}
+use lib.Dec.{ltb, eqb}
+use lib.ListN.{length}
 use borrow.Author.Needs.{needs}
+use Rattle.sums.proofs.Tables.{mul-small}
+use Rattle.files.specs.Format.{kindOf, placeOf}
+use Rattle.files.specs.Reading.{entryBad}
+use Rattle.files.proofs.ReadLaws.{frame-bad, kind-bad, post-low, post-high}
 use Rattle.files.proofs.reading.entry_bad.Statement.{statement}
 use Rattle.files.proofs.reading.entry_bad.Tie as tie
 

@@ -1,11 +1,11 @@
 -- `first_bad` meets its contract: no entry passed is bad. Assumes nothing.
-use Rattle.files.specs.Reading.{entryBad, firstBad}
-use Rattle.sums.proofs.Searches.{first-at, first-none}
-use borrow.Author.Count.{below-more}
-use mathlib.Core.Bool.{false}
-use mathlib.Core.Path.{_≡_, sym, _∙_}
-use native.Mathlib.Omega.{arith}
 use Prim.Native.Nat.{ℕ, _≤_, _<_, _-_}
+use native.Mathlib.Omega.{arith}
+use mathlib.Core.Path.{_≡_, sym, _∙_}
+use mathlib.Core.Bool.{false}
+use borrow.Author.Count.{below-more}
+use Rattle.sums.proofs.Searches.{first-at, first-none}
+use Rattle.files.specs.Reading.{entryBad, firstBad}
 use Rattle.files.proofs.reading.first_bad.Statement.{statement}
 use Rattle.files.proofs.reading.first_bad.Tie as tie
 

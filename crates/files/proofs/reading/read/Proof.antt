@@ -1,8 +1,8 @@
 -- `read` meets its contract: the table of an accepted file is whole. Assumes nothing.
-use Rattle.files.proofs.ReadLaws.{accepted-sound, table-read, refusal-read}
-use mathlib.Core.Path.{sym, _∙_}
 use native.Mathlib.Omega.{arith}
+use mathlib.Core.Path.{sym, _∙_}
 use borrow.Author.Needs.{needs}
+use Rattle.files.proofs.ReadLaws.{accepted-sound, table-read, refusal-read}
 use Rattle.files.proofs.reading.read.Statement.{statement}
 use Rattle.files.proofs.reading.read.Tie as tie
 

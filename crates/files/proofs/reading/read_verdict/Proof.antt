@@ -1,10 +1,10 @@
 -- `read_verdict` meets its contract: the checks in their order. Assumes nothing.
-use Rattle.files.proofs.ReadLaws.{table-whole, read-ranges, read-nodes, read-entry, read-done}
+use native.Mathlib.Omega.{arith}
+use mathlib.Core.Path.{sym, _∙_}
+use borrow.Author.Needs.{needs}
 use Rattle.star.proofs.RefusalLaws.{fires}
 use Rattle.files.specs.Reading.{readVerdict}
-use mathlib.Core.Path.{sym, _∙_}
-use native.Mathlib.Omega.{arith}
-use borrow.Author.Needs.{needs}
+use Rattle.files.proofs.ReadLaws.{table-whole, read-ranges, read-nodes, read-entry, read-done}
 use Rattle.files.proofs.reading.read_verdict.Statement.{statement}
 use Rattle.files.proofs.reading.read_verdict.Tie as tie
 

@@ -1,11 +1,11 @@
 -- `table_bad` meets its contract: the three tests in their order. Assumes nothing.
-use Rattle.files.proofs.ReadLaws.{table-cut, table-many, table-rest}
-use lib.ListN.{length}
-use lib.Dec.{ltb}
 use Prim.Native.Nat.{_+_, _*_}
-use mathlib.Core.Path.{sym, _∙_, ap}
 use native.Mathlib.Omega.{arith}
+use mathlib.Core.Path.{sym, _∙_, ap}
+use lib.Dec.{ltb}
+use lib.ListN.{length}
 use borrow.Author.Needs.{needs}
+use Rattle.files.proofs.ReadLaws.{table-cut, table-many, table-rest}
 use Rattle.files.proofs.reading.table_bad.Statement.{statement}
 use Rattle.files.proofs.reading.table_bad.Tie as tie
 

@@ -1,0 +1,102 @@
+-- The theorems on played files. The books hold as they hold of every history. Under the fair rule what is held after a file is unique, by induction on
+-- the two histories: a fresh start clears every cell, a post changes each by the same arrivals, and a frame under the fair rule sends the same; each by
+-- the theorem on that call. Assumes nothing.
+use Prim.Native.Nat.{ℕ, _≤_}
+use native.Mathlib.Omega.{arith}
+use mathlib.Core.Path.{_≡_, refl, sym, _∙_, ap, subst}
+use mathlib.Core.List.{List, [], _∷_, _++_}
+use lib.ListN.{length, getD, take, length-append}
+use lib.Seq.{take-at, getD-at}
+use Rattle.star.specs.declared.refusals.Verdict.the-variants.{Accepted}
+use Rattle.star.specs.declared.refusals.Verdict.{Verdict}
+use Rattle.star.proofs.RefusalLaws.{never}
+use Rattle.planner.specs.Plans.{verdictOf}
+use Rattle.planner.specs.declared.answers.Answer.{Answer}
+use Rattle.calls.proofs.Verdicts.{fresh-accepted, post-accepted, frame-accepted}
+use Rattle.run.specs.Held.{Held, LongEnough, FreshCall, PostCall, FrameCall}
+use Rattle.run.specs.Histories.{Lent, Event, posting, framing, restarting, History, started, continued}
+use Rattle.run.specs.Theorems.{HeldAlike}
+use Rattle.run.proofs.CallLaws.{fresh-theorems, post-theorems}
+use Rattle.run.proofs.FrameLaws.{frame-theorems}
+use Rattle.run.proofs.HistoryLaws.{books-hold}
+use Rattle.files.specs.Format.{post, frame}
+use Rattle.play.specs.Plays.{told, AllAccepted, more}
+use Rattle.play.specs.Theorems.{PlayTheorems}
+
+-- ---- the last of two lists
+module _ {A : Type 0} where
+  snoc-lengths : (xs ys : List A) (x y : A) → xs ++ (x ∷ []) ≡ ys ++ (y ∷ []) → length xs ≡ length ys
+  snoc-lengths xs ys x y e = omega (arith, ap length e, length-append xs (x ∷ []), length-append ys (y ∷ []))
+
+  snoc-front : (xs ys : List A) (x y : A) → xs ++ (x ∷ []) ≡ ys ++ (y ∷ []) → xs ≡ ys
+  snoc-front xs ys x y e = sym (take-at xs (x ∷ []) (length ys) (snoc-lengths xs ys x y e)) ∙ ap (take (length ys)) e ∙ take-at ys (y ∷ []) (length ys) refl
+
+  snoc-last : (xs ys : List A) (x y : A) → xs ++ (x ∷ []) ≡ ys ++ (y ∷ []) → x ≡ y
+  snoc-last xs ys x y e = sym (getD-at xs x [] x (length ys) (snoc-lengths xs ys x y e)) ∙ ap (λ l. getD l (length ys) x) e ∙ getD-at ys y [] x (length ys) refl
+
+-- ---- two histories
+told-length : (e : Event) (es : List Event) → AllAccepted (e ∷ es) → 1 ≤ length (told (e ∷ es))
+unfolding told
+told-length (posting a v) es x = omega (arith, length-append (told es) (post a ∷ []))
+told-length (framing lent plan r) es x = omega (arith, length-append (told es) (frame ∷ []))
+told-length (restarting n l limit rule x) es (more _ _ e _) = absurd (never e)
+
+same-entry : {x y : List ℕ} → post x ≡ post y → x ≡ y
+same-entry e = cc
+
+post-no-frame : {x : List ℕ} → post x ≡ frame → ⊥
+post-no-frame e = let z : _≡_ {A = ℕ} 0 1 = cc in omega arith
+
+module _ {n l limit rule : ℕ} (fair : rule ≡ 0) where
+  -- an accepted fresh start was lent tables that are long enough
+  fresh-long : {h h' : Held} → FreshCall n l limit rule h h' Accepted → LongEnough n h
+  fresh-long {h} a =
+      let t = fresh-accepted n l limit rule (h .waiting) (h .posted) (h .sent) (h .dropped) (sym (a .tables .answer)) .1 in
+      record { waiting = t .queues .cells; posted = t .postings .cells; sent = t .sendings .cells; dropped = t .drops .cells }
+
+  same-start : {h h' k k' : Held} → FreshCall n l limit rule h h' Accepted → FreshCall n l limit rule k k' Accepted → HeldAlike n h' k'
+  same-start {h} {h'} {k} {k'} a b = fresh-theorems .needed n l limit rule h h' k k' Accepted Accepted a b (fresh-long a) (fresh-long b) .1 refl
+
+  module _ {es : List Event} {h k : Held} (past : History n l limit rule es h) (s : HeldAlike n h k) where
+    here : h .run .nodes ≡ n
+    here = books-hold past .nodes
+
+    alike : HeldAlike (h .run .nodes) h k
+    alike = subst (λ m. HeldAlike m h k) (sym here) s
+
+    same-post : {h' k' : Held} {a : List ℕ} {v u : Verdict} → PostCall a h h' v → PostCall a k k' u → v ≡ Accepted → HeldAlike n h' k'
+    same-post {h'} {k'} {a} {v} {u} x y ok =
+        let cells = post-accepted (h .run) a (h .waiting) (h .posted) (h .sent) (h .dropped) (sym (x .tables .answer) ∙ ok) .given .cells in
+        subst (λ m. HeldAlike m h' k') here (post-theorems .needed a a h h' k k' v u x y (record { first-room = cells; second-room = cells; cells = refl }) alike .1)
+
+    same-frame : {h' k' : Held} {lent plan given made : Lent} {r t : Answer} →
+        FrameCall (lent .kept) (lent .withdrawn) (lent .schedule) (plan .kept) (plan .withdrawn) (plan .schedule) h h' r →
+        FrameCall (given .kept) (given .withdrawn) (given .schedule) (made .kept) (made .withdrawn) (made .schedule) k k' t →
+        verdictOf r ≡ Accepted → verdictOf t ≡ Accepted → HeldAlike n h' k'
+    same-frame {h'} {k'} {lent} {plan} {given} {made} {r} {t} x y ok ko =
+        let f = frame-accepted (h .run) (h .waiting) (h .posted) (h .sent) (h .dropped) _ _ _ (sym (x .tables .answer) ∙ ok) in
+        let g = frame-accepted (k .run) (k .waiting) (k .posted) (k .sent) (k .dropped) _ _ _ (sym (y .tables .answer) ∙ ko) in
+        let one = frame-theorems .needed (lent .kept) (lent .withdrawn) (lent .schedule) (plan .kept) (plan .withdrawn) (plan .schedule) (given .kept) (given .withdrawn) (given .schedule) (made .kept) (made .withdrawn) (made .schedule) h h' k k' r t x y alike (f .kept-room, f .withdrawn-room, f .schedule-room) (rw (s .run) (g .kept-room, g .withdrawn-room, g .schedule-room)) in
+        subst (λ m. HeldAlike m h' k') here (one .fair-cells ok (books-hold past .rules ∙ fair) .0)
+
+  pub same-held : (es fs : List Event) (h k : Held) → History n l limit rule es h → History n l limit rule fs k → told es ≡ told fs → AllAccepted es → AllAccepted fs → HeldAlike n h k
+  unfolding told
+  same-held [] [] h k (started _ _ a) (started _ _ b) e x y = same-start a b
+  same-held [] (f ∷ fs) h k p q e x y = let long = told-length f fs y in absurd (omega (arith, ap length e, long))
+  same-held (f ∷ es) [] h k p q e x y = let long = told-length f es x in absurd (omega (arith, ap length e, long))
+  same-held (restarting n' l' limit' rule' x' ∷ es) (f ∷ fs) h k p q e (more _ _ x xs) y = absurd (never x)
+  same-held (posting a v ∷ es) (restarting n' l' limit' rule' x' ∷ fs) h k p q e x (more _ _ y ys) = absurd (never y)
+  same-held (framing lent plan r ∷ es) (restarting n' l' limit' rule' x' ∷ fs) h k p q e x (more _ _ y ys) = absurd (never y)
+  same-held (posting a v ∷ es) (posting b u ∷ fs) h k (continued _ _ h₀ _ p c) (continued _ _ k₀ _ q d) e (more _ _ x xs) (more _ _ y ys) =
+      same-post p (same-held es fs h₀ k₀ p q (snoc-front (told es) (told fs) (post a) (post b) e) xs ys) c (subst (λ t. PostCall t k₀ k u) (sym (same-entry (snoc-last (told es) (told fs) (post a) (post b) e))) d) x
+  same-held (framing lent plan r ∷ es) (framing given made t ∷ fs) h k (continued _ _ h₀ _ p c) (continued _ _ k₀ _ q d) e (more _ _ x xs) (more _ _ y ys) =
+      same-frame p (same-held es fs h₀ k₀ p q (snoc-front (told es) (told fs) frame frame e) xs ys) {lent = lent} {plan = plan} {given = given} {made = made} c d x y
+  same-held (posting a v ∷ es) (framing given made t ∷ fs) h k p q e x y = absurd (post-no-frame {x = a} (snoc-last (told es) (told fs) (post a) frame e))
+  same-held (framing lent plan r ∷ es) (posting b u ∷ fs) h k p q e x y = absurd (post-no-frame {x = b} (sym (snoc-last (told es) (told fs) frame (post b) e)))
+
+pub play-theorems : PlayTheorems
+play-theorems = record {
+  books = λ file count h p. books-hold (p .history);
+  unique = λ file count h k fair p q.
+      same-held fair (p .events) (q .events) h k (p .history) (q .history) (p .entries ∙ sym (q .entries)) (p .accepted) (q .accepted);
+}

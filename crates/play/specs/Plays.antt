@@ -1,0 +1,64 @@
+-- Playing a file: a history of a run whose events are the file's entries, in their order, each accepted.
+use Prim.Native.Nat.{ℕ, _*_, _≤_}
+use mathlib.Core.Path.{_≡_}
+use mathlib.Core.List.{List, [], _∷_, _++_}
+use lib.ListN.{length}
+use Rattle.sums.specs.Tables.{tab}
+use Rattle.star.specs.declared.refusals.Verdict.{Verdict}
+use Rattle.star.specs.declared.refusals.Verdict.the-variants.{Accepted}
+use Rattle.star.specs.Tables.{Demands}
+use Rattle.planner.specs.declared.answers.Answer.{Answer}
+use Rattle.calls.specs.declared.record.Run.{Run}
+use Rattle.calls.specs.Runs.{Posted, Framed}
+use Rattle.run.specs.Held.{Held, held}
+use Rattle.run.specs.Histories.{Lent, Event, posting, framing, restarting, outcome, History}
+use Rattle.files.specs.Format.{nodesOf, slotsOf, limitOf, ruleOf, Entry, post, frame, entryOf, matrixAt}
+use Rattle.files.specs.Reading.{readVerdict}
+
+-- The entries that events are; the events of a history stand latest first. A refused fresh start is no entry.
+unfoldable pub told : List Event → List Entry
+told [] = []
+told (posting arrivals v ∷ es) = told es ++ (post arrivals ∷ [])
+told (framing lent plan r ∷ es) = told es ++ (frame ∷ [])
+told (restarting n l limit rule x ∷ es) = told es
+
+-- every event was accepted
+pub data AllAccepted : List Event → Type 0 where
+  none : AllAccepted []
+  more : (e : Event) (es : List Event) → outcome e ≡ Accepted → AllAccepted es → AllAccepted (e ∷ es)
+
+-- The first entries of a file are played: there is a history that starts with an accepted fresh of the file's N, L, B and rule, whose events are
+-- exactly these entries in their order, each accepted, and this is held after it.
+pub record Played (file : List ℕ) (count : ℕ) (h : Held) : Type 0 where
+  pub events : List Event
+  pub history : History (nodesOf file) (slotsOf file) (limitOf file) (ruleOf file) events h
+  pub entries : told events ≡ tab count (entryOf file)
+  pub accepted : AllAccepted events
+
+-- an accepted file, whose first entries are played
+pub record CanPlay (file : List ℕ) (count : ℕ) (run : Run) (waiting posted sent dropped : List ℕ) : Type 0 where
+  pub good : readVerdict file ≡ Accepted
+  pub played : Played file count (held run waiting posted sent dropped)
+
+-- tables long enough for 64 nodes
+pub record Rooms (waiting posted sent dropped : List ℕ) : Type 0 where
+  pub queues : 4096 ≤ length waiting
+  pub postings : 4096 ≤ length posted
+  pub sendings : 4096 ≤ length sent
+  pub drops : 4096 ≤ length dropped
+
+-- a post of the matrix at this place, and its verdict
+pub record PostPlayed (file : List ℕ) (at : ℕ) (old : Run) (waiting posted sent dropped waiting' posted' dropped' : List ℕ) : Type 0 where
+  pub v : Verdict
+  pub tables : Posted old (matrixAt (old .nodes) file at) waiting posted sent dropped waiting' posted' dropped' v
+  pub within : Demands (old .nodes) (matrixAt (old .nodes) file at)
+
+-- a frame, the tables lent to it, what they then hold, and its answer
+pub record FramePlayed (old : Run) (waiting posted sent dropped waiting' sent' : List ℕ) : Type 0 where
+  pub lent : Lent
+  pub plan : Lent
+  pub r : Answer
+  pub tables : Framed old waiting posted sent dropped (lent .kept) (lent .withdrawn) (lent .schedule) waiting' sent' (plan .kept) (plan .withdrawn) (plan .schedule) r
+  pub long-kept : 4096 ≤ length (lent .kept)
+  pub long-withdrawn : 4096 ≤ length (lent .withdrawn)
+  pub long-schedule : 65536 ≤ length (lent .schedule)
