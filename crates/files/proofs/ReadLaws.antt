@@ -9,18 +9,18 @@ use lib.ListN.{length}
 use borrow.Author.Tests.{ltb-false, lt-ltb, le-ltb, eq-eqb, ne-eqb, eqb-true, not-false}
 use Rattle.sums.proofs.Cases.{by-eq}
 use Rattle.sums.proofs.Searches.{first-before, first-none}
+use Rattle.star.specs.declared.refusals.Refusal.{Refusal}
+use Rattle.star.specs.declared.refusals.Refusal.the-variants.{BadFile}
+use Rattle.star.specs.declared.refusals.Verdict.{Verdict}
+use Rattle.star.specs.declared.refusals.Verdict.the-variants.{Accepted, Refused}
 use Rattle.star.specs.Checks.{rangesVerdict, Ranges}
 use Rattle.star.specs.Refusals.{noticeOf}
-use Rattle.star.specs.declared.refusals.Refusal.the-variants.{BadFile}
-use Rattle.star.specs.declared.refusals.Refusal.{Refusal}
-use Rattle.star.specs.declared.refusals.Verdict.the-variants.{Accepted, Refused}
-use Rattle.star.specs.declared.refusals.Verdict.{Verdict}
 use Rattle.star.proofs.RefusalLaws.{fires, passes, in-numbers, passed, neither, neither-of, ranges-fire, ranges-pass, ranges-fit, in-ranges, ranged}
+use Rattle.files.specs.declared.reading.Reading.{Reading}
+use Rattle.files.specs.declared.reading.Reading.the-variants.{Table}
+use Rattle.files.specs.declared.reading.Reading.the-variants as reading
 use Rattle.files.specs.Format.{nodesOf, slotsOf, limitOf, ruleOf, entriesOf, kindOf, placeOf, tableEnd}
 use Rattle.files.specs.Reading.{tableBad, entryBadOf, entryBad, firstBad, readVerdict, readNotice, readingVerdict, readAnswer, ReadResult}
-use Rattle.files.specs.declared.reading.Reading.the-variants as reading
-use Rattle.files.specs.declared.reading.Reading.the-variants.{Table}
-use Rattle.files.specs.declared.reading.Reading.{Reading}
 
 -- ---- the table
 module _ (file : List ℕ) where

@@ -1,16 +1,16 @@
 -- Bytes written piece by piece: two pieces one after the other are one piece; pieces in a row, how long they are and what stands in them. The laws
 -- assume nothing.
 use Prim.Native.Nat.{ℕ, zero, suc, _+_, _*_, _≤_, _<_}
-use native.Mathlib.Omega.{arith}
 use native.Mathlib.Nat.{mul-le-mul-right}
 use native.Mathlib.Numerals.{add-one}
+use native.Mathlib.Omega.{arith}
 use mathlib.Core.Path.{_≡_, refl, sym, _∙_, ap, ap₂}
 use mathlib.Core.List.{List, [], _∷_, _++_, append-assoc, append-nil}
 use lib.ListN.{length, getD, take, drop, set, length-append, take-append-drop, List·getD-append}
 use lib.Seq.{take-at, drop-drop, drop-append-add, getD-append-add, set-split, take-length, length-take-le, append-snoc, paste}
 use Rattle.sums.specs.Tables.{written}
 use Rattle.sums.proofs.Cases.{by-lt}
-use Rattle.pieces.specs.Pieces.{Appended, joinTo}
+use Rattle.pieces.specs.Pieces.{Appended, joinTo, Answered}
 
 -- ---- pieces
 pub appended-none : (out : List ℕ) (at : ℕ) → Appended out out at at []
@@ -107,3 +107,17 @@ module _ (f : ℕ → List ℕ) where
       (λ high.
       let e : k ≡ n = omega arith in
       rw (e, ← before) (getD-append-add (joinTo n f) (f n) b 0))
+
+-- ---- a text from the front
+module _ {promised : List ℕ → Type 0} {out out' : List ℕ} {k : ℕ} where
+  pub answered-text : {text : List ℕ} → promised text → Appended out out' 0 k text → Answered promised out out' k
+  answered-text {text} p a = record { text = text; prints = p; bytes = appended-front out out' text k a; end = omega (arith, a .end) }
+
+  -- it lies within the lent bytes
+  pub answered-within : Answered promised out out' k → k ≤ length out'
+  unfolding written
+  answered-within a = omega (arith, a .end, ap length (a .bytes), length-append (a .text) (drop (length (a .text)) out))
+
+  -- what is promised of a text may be said otherwise
+  pub answered-as : {other : List ℕ → Type 0} → ((text : List ℕ) → promised text → other text) → Answered promised out out' k → Answered other out out' k
+  answered-as f a = record { text = a .text; prints = f (a .text) (a .prints); bytes = a .bytes; end = a .end }

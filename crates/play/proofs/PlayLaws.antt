@@ -12,13 +12,13 @@ use lib.ListN.{length, take, length-append}
 use borrow.Author.Tests.{eq-eqb, ne-eqb}
 use Rattle.sums.specs.Tables.{tab, written}
 use Rattle.sums.proofs.Tables.{mul-small, length-tab, tab-at, written-first}
-use Rattle.star.specs.Checks.{Ranges}
-use Rattle.star.specs.declared.refusals.Verdict.the-variants.{Accepted, Refused}
 use Rattle.star.specs.declared.refusals.Verdict.{Verdict}
-use Rattle.planner.specs.Plans.{verdictOf}
+use Rattle.star.specs.declared.refusals.Verdict.the-variants.{Accepted, Refused}
+use Rattle.star.specs.Checks.{Ranges}
 use Rattle.planner.specs.declared.answers.Answer.{Answer}
-use Rattle.calls.specs.Runs.{freshRun, Freshened, postRun, Posted, frameRun, Framed}
+use Rattle.planner.specs.Plans.{verdictOf}
 use Rattle.calls.specs.declared.record.Run.{Run}
+use Rattle.calls.specs.Runs.{freshRun, Freshened, postRun, Posted, frameRun, Framed}
 use Rattle.run.specs.Held.{held, FreshCall, PostCall, FrameCall}
 use Rattle.run.specs.Histories.{Event, posting, framing, restarting, started, continued, postsOf, framesOf, whether, BooksHold}
 use Rattle.run.specs.Theorems.{Callable}

@@ -1,26 +1,28 @@
 -- The theorems on played files. The books hold as they hold of every history. Under the fair rule what is held after a file is unique, by induction on
 -- the two histories: a fresh start clears every cell, a post changes each by the same arrivals, and a frame under the fair rule sends the same; each by
--- the theorem on that call. Assumes nothing.
-use Prim.Native.Nat.{ℕ, _≤_}
+-- the theorem on that call. What was posted is told by the entries alone. Assumes nothing.
+use Prim.Native.Nat.{ℕ, _*_, _/_, _%_, _≤_, _<_}
 use native.Mathlib.Omega.{arith}
 use mathlib.Core.Path.{_≡_, refl, sym, _∙_, ap, subst}
 use mathlib.Core.List.{List, [], _∷_, _++_}
 use lib.ListN.{length, getD, take, length-append}
 use lib.Seq.{take-at, getD-at}
-use Rattle.star.specs.declared.refusals.Verdict.the-variants.{Accepted}
+use Rattle.sums.specs.Tables.{cell}
+use Rattle.sums.proofs.Tables.{place-split, at-place}
 use Rattle.star.specs.declared.refusals.Verdict.{Verdict}
+use Rattle.star.specs.declared.refusals.Verdict.the-variants.{Accepted}
 use Rattle.star.proofs.RefusalLaws.{never}
-use Rattle.planner.specs.Plans.{verdictOf}
 use Rattle.planner.specs.declared.answers.Answer.{Answer}
+use Rattle.planner.specs.Plans.{verdictOf}
 use Rattle.calls.proofs.Verdicts.{fresh-accepted, post-accepted, frame-accepted}
 use Rattle.run.specs.Held.{Held, LongEnough, FreshCall, PostCall, FrameCall}
-use Rattle.run.specs.Histories.{Lent, Event, posting, framing, restarting, History, started, continued}
+use Rattle.run.specs.Histories.{Lent, Event, posting, framing, restarting, History, started, continued, whether, arrived}
 use Rattle.run.specs.Theorems.{HeldAlike}
 use Rattle.run.proofs.CallLaws.{fresh-theorems, post-theorems}
 use Rattle.run.proofs.FrameLaws.{frame-theorems}
 use Rattle.run.proofs.HistoryLaws.{books-hold}
-use Rattle.files.specs.Format.{post, frame}
-use Rattle.play.specs.Plays.{told, AllAccepted, more}
+use Rattle.files.specs.Format.{nodesOf, post, frame}
+use Rattle.play.specs.Plays.{told, AllAccepted, more, Played}
 use Rattle.play.specs.Theorems.{PlayTheorems}
 
 -- ---- the last of two lists
@@ -94,9 +96,44 @@ module _ {n l limit rule : ℕ} (fair : rule ≡ 0) where
   same-held (posting a v ∷ es) (framing given made t ∷ fs) h k p q e x y = absurd (post-no-frame {x = a} (snoc-last (told es) (told fs) (post a) frame e))
   same-held (framing lent plan r ∷ es) (posting b u ∷ fs) h k p q e x y = absurd (post-no-frame {x = b} (sym (snoc-last (told es) (told fs) frame (post b) e)))
 
+-- ---- what was posted is told by the entries alone
+whether-accepted : {v : Verdict} (x y : ℕ) → v ≡ Accepted → whether v x y ≡ x
+whether-accepted x y e = rw e refl
+
+same-arrived : (n : ℕ) (es fs : List Event) (i j : ℕ) → told es ≡ told fs → AllAccepted es → AllAccepted fs → arrived n es i j ≡ arrived n fs i j
+unfolding told arrived
+same-arrived n [] [] i j e x y = refl
+same-arrived n [] (f ∷ fs) i j e x y = let long = told-length f fs y in absurd (omega (arith, ap length e, long))
+same-arrived n (f ∷ es) [] i j e x y = let long = told-length f es x in absurd (omega (arith, ap length e, long))
+same-arrived n (restarting n' l' limit' rule' x' ∷ es) (f ∷ fs) i j e (more _ _ x xs) y = absurd (never x)
+same-arrived n (posting a v ∷ es) (restarting n' l' limit' rule' x' ∷ fs) i j e x (more _ _ y ys) = absurd (never y)
+same-arrived n (framing lent plan r ∷ es) (restarting n' l' limit' rule' x' ∷ fs) i j e x (more _ _ y ys) = absurd (never y)
+same-arrived n (posting a v ∷ es) (posting b u ∷ fs) i j e (more _ _ x xs) (more _ _ y ys) =
+    omega (
+      arith,
+      same-arrived n es fs i j (snoc-front (told es) (told fs) (post a) (post b) e) xs ys,
+      whether-accepted (cell n a i j) 0 x,
+      whether-accepted (cell n b i j) 0 y,
+      ap (λ t. cell n t i j) (same-entry (snoc-last (told es) (told fs) (post a) (post b) e)),
+    )
+same-arrived n (framing lent plan r ∷ es) (framing given made t ∷ fs) i j e (more _ _ x xs) (more _ _ y ys) = same-arrived n es fs i j (snoc-front (told es) (told fs) frame frame e) xs ys
+same-arrived n (posting a v ∷ es) (framing given made t ∷ fs) i j e x y = absurd (post-no-frame {x = a} (snoc-last (told es) (told fs) (post a) frame e))
+same-arrived n (framing lent plan r ∷ es) (posting b u ∷ fs) i j e x y = absurd (post-no-frame {x = b} (sym (snoc-last (told es) (told fs) frame (post b) e)))
+
+same-posted : (file : List ℕ) (count : ℕ) (h k : Held) → Played file count h → Played file count k → (c : ℕ) → c < nodesOf file * nodesOf file → getD (h .posted) c 0 ≡ getD (k .posted) c 0
+same-posted file count h k p q c lt =
+    let n = nodesOf file in
+    let s = place-split n c lt in
+    at-place n (h .posted) c lt
+    ∙ books-hold (p .history) .posted (c / n) (c % n) (s .0) (s .1 .0)
+    ∙ same-arrived n (p .events) (q .events) (c / n) (c % n) (p .entries ∙ sym (q .entries)) (p .accepted) (q .accepted)
+    ∙ sym (books-hold (q .history) .posted (c / n) (c % n) (s .0) (s .1 .0))
+    ∙ sym (at-place n (k .posted) c lt)
+
 pub play-theorems : PlayTheorems
 play-theorems = record {
   books = λ file count h p. books-hold (p .history);
   unique = λ file count h k fair p q.
       same-held fair (p .events) (q .events) h k (p .history) (q .history) (p .entries ∙ sym (q .entries)) (p .accepted) (q .accepted);
+  posted = same-posted;
 }

@@ -1,0 +1,1 @@
+-- The printed lines at their edges, by computation. Assumes nothing.

@@ -1,0 +1,50 @@
+-- The theorems on printed texts: what is held after a file is the same pair by pair under the fair rule, and in what was posted under either; the lines
+-- say nothing else. Assumes nothing.
+use Prim.Native.Nat.{ℕ, _*_}
+use mathlib.Core.Path.{_≡_, refl, sym, _∙_, ap}
+use lib.ListN.{length}
+use borrow.Author.Tests.{le-ltb}
+use Rattle.sums.specs.Tables.{written}
+use Rattle.star.proofs.AlikeLaws.{alike-at}
+use Rattle.star.proofs.RefusalLaws.{passes}
+use Rattle.pieces.proofs.PieceLaws.{join-ext}
+use Rattle.run.specs.Held.{Held}
+use Rattle.run.specs.Theorems.{HeldAlike}
+use Rattle.files.specs.Format.{nodesOf, entriesOf}
+use Rattle.play.proofs.PlayTheorems.{play-theorems}
+use Rattle.scenario_text.specs.Lines.{textAt, linesText, heldText, room}
+use Rattle.scenario_text.specs.Outcomes.{printVerdict}
+use Rattle.scenario_text.specs.Theorems.{PrintTheorems}
+
+lines-same : (n : ℕ) (h k : Held) → HeldAlike n h k → heldText n h ≡ heldText n k
+unfolding linesText textAt
+lines-same n h k s =
+    join-ext (n * n) _ _ (λ c lt. rw (alike-at (s .posted) c lt, alike-at (s .sent) c lt, alike-at (s .dropped) c lt, alike-at (s .waiting) c lt) refl)
+
+pub print-theorems : PrintTheorems
+unfolding printVerdict
+print-theorems = record {
+  unique = λ input text₁ text₂ p q. record {
+    long = λ long. p .long long ∙ sym (q .long long);
+    refused = λ r fits e. p .refused fits r e ∙ sym (q .refused fits r e);
+    fair = λ fits e rule.
+        let a = p .played fits e in
+        let b = q .played fits e in
+        a .lines ∙ lines-same (nodesOf input) (a .h) (b .h) (play-theorems .unique input (entriesOf input) (a .h) (b .h) rule (a .played) (b .played)) ∙ sym (b .lines);
+    least = λ fits e.
+        let a = p .played fits e in
+        let b = q .played fits e in
+        record {
+          h = a .h;
+          k = b .h;
+          one = a .played;
+          other = b .played;
+          lines-one = a .lines;
+          lines-other = b .lines;
+          posted = play-theorems .posted input (entriesOf input) (a .h) (b .h) (a .played) (b .played);
+        };
+  };
+  bytes = λ input out out₁ out₂ r₁ r₂ a b same.
+      (a .bytes ∙ ap (λ t. written (length t) t out) same ∙ sym (b .bytes), a .end ∙ ap length same ∙ sym (b .end));
+  accepts = λ file text text' r p enough. p .answer ∙ sym (passes _ (le-ltb (length text) room enough) refl);
+}
