@@ -10,8 +10,10 @@ use Rattle.sums.specs.Tables.{cell}
 use Rattle.star.specs.Lines.{total}
 use Rattle.star.specs.Refusals.{firstAbove}
 use Rattle.pieces.specs.Bytes.{bytes}
+use Rattle.pieces.specs.Pieces.{joinTo}
+use Rattle.pieces.specs.Text.{decimal, digitsIn, marked, named, refusalText}
 use Rattle.number_list.specs.Input.{listOf, numbersOf, wordsFrom, isNumber, allDigits, valueFrom}
-use Rattle.matrix_text.specs.Text.{decimal, digitsIn, joinTo, named, refusalText, headText, totalsText, cellText, rowText, rowsText, planText}
+use Rattle.matrix_text.specs.Text.{headText, totalsText, cellText, rowText, rowsText, planText}
 use Rattle.matrix_text.specs.Outcomes.{BadInput, outcome, judgeList, judge, outcomeText}
 
 -- what is printed for an input whose plan has this kept matrix
@@ -29,9 +31,6 @@ record Examples : Type 0 where
   row-by-row : plans "2 10 0 1 2 3 4" (1 ∷ 2 ∷ 3 ∷ 4 ∷ []) "nodes 2 slots 10 rule 0\nkept 10 refused 0\n1 2\n3 4\n"
   -- the kept total, then the refused one
   totals : totalsText 7 15 ≡ bytes "kept 7 refused 15\n"
-  -- no leading zeros; 0 is one digit
-  nought : decimal 0 ≡ bytes "0"
-  largest : decimal 4294967295 ≡ bytes "4294967295"
   -- one or more spaces or line feeds, also at either end; leading zeros are counted and not printed
   spaced : plans "\n 01 04  00\n\n05 " (4 ∷ []) "nodes 1 slots 4 rule 0\nkept 4 refused 1\n4\n"
   -- the ends of the ranges
@@ -70,13 +69,11 @@ record Examples : Type 0 where
 
 examples : Examples
 unfolding outcome judgeList judge listOf numbersOf wordsFrom isNumber allDigits valueFrom firstAbove firstBelow firstFrom
-    outcomeText planText headText totalsText refusalText rowsText rowText cellText joinTo named decimal digitsIn total sumTo cell
+    outcomeText planText headText totalsText refusalText rowsText rowText cellText joinTo marked named decimal digitsIn total sumTo cell
 examples = record {
   whole = refl;
   row-by-row = refl;
   totals = refl;
-  nought = refl;
-  largest = refl;
   spaced = refl;
   lowest = refl;
   highest = refl;

@@ -20,15 +20,17 @@ use Rattle.star.specs.declared.refusals.Verdict.the-variants as verdict
 use Rattle.star.specs.Refusals.{refuse, nodesOut, slotsOut, ruleOut, short, someCell, firstAbove, refusalNumber, refusalPlace}
 use Rattle.star.specs.Lines.{total, wholeFrame}
 use Rattle.star.proofs.RefusalLaws.{fires, passes, neither, in-its-range}
+use Rattle.pieces.specs.Pieces.{Appended}
+use Rattle.pieces.specs.Text.{badInput, refusalText}
+use Rattle.pieces.proofs.PieceLaws.{appended-front}
 use Rattle.planner.specs.declared.answers.Answer.{Answer}
 use Rattle.planner.specs.declared.answers.Answer.the-variants.{Planned, Refused}
 use Rattle.planner.specs.Plans.{verdictOf, keptTotal, refusedTotal, changes, planVerdict, Plan, PlanResult}
-use Rattle.matrix_text.specs.Text.{badInput, refusalText, planText}
-use Rattle.matrix_text.specs.Outcomes.{Outcome, BadInput, Refuses, Plans, orElse, judge, judgeList, outcome, outcomeText, Prints, Answered}
-use Rattle.number_list.specs.Reads.{Stored, Holds}
-use Rattle.matrix_text.specs.Writes.{Appended, refusedText, answerText, Printable, Judged}
 use Rattle.number_list.specs.Input.{listOf}
-use Rattle.matrix_text.proofs.TextLaws.{appended-front}
+use Rattle.number_list.specs.Reads.{Stored, Holds}
+use Rattle.matrix_text.specs.Text.{planText}
+use Rattle.matrix_text.specs.Outcomes.{Outcome, BadInput, Refuses, Plans, orElse, judge, judgeList, outcome, outcomeText, Prints, Answered}
+use Rattle.matrix_text.specs.Writes.{refusedText, answerText, Printable, Judged}
 
 -- ---- tests
 or-true : (a : Bool) → (a || true) ≡ true

@@ -1,6 +1,6 @@
 -- The theorems on the matrix program's text. A text is made of an outcome, which is one for each input, and of the kept cells of a plan: under the
 -- fair rule these are one matrix, under the least rule they have one total, since greatest matrices have. Assumes nothing.
-use Prim.Native.Nat.{ℕ, zero, suc, _+_, _-_, _*_, _≤_, _<_}
+use Prim.Native.Nat.{ℕ, _+_, _-_, _*_, _≤_, _<_}
 use native.Mathlib.Omega.{arith}
 use mathlib.Core.Path.{_≡_, refl, sym, _∙_, ap, ap₂}
 use mathlib.Core.Bool.{Bool, true, false}
@@ -18,23 +18,20 @@ use Rattle.star.specs.Refusals.{firstAbove}
 use Rattle.star.specs.Lines.{total}
 use Rattle.star.proofs.LineLaws.{total-ext}
 use Rattle.star.proofs.RefusalLaws.{in-its-range, inside, within-range, none-above}
+use Rattle.pieces.specs.Text.{marked}
+use Rattle.pieces.proofs.PieceLaws.{join-ext}
 use Rattle.planner.proofs.NeededLaws.{least-total}
 use Rattle.number_list.specs.Input.{listOf}
-use Rattle.matrix_text.specs.Text.{decimal, joinTo, headText, totalsText, markAfter, cellText, rowText, rowsText, planText}
+use Rattle.matrix_text.specs.Text.{headText, totalsText, markAfter, cellText, rowText, rowsText, planText}
 use Rattle.matrix_text.specs.Outcomes.{Outcome, BadInput, Refuses, Plans, orElse, judge, judgeList, outcome, outcomeText, Prints, Answered}
 use Rattle.matrix_text.specs.Theorems.{Same, LeastText, TextsAgree, InOrder, TextTheorems}
 use Rattle.matrix_text.proofs.OutcomeLaws.{left}
 
 -- ---- kept matrices with the same cells print the same text
-join-ext : (m : ℕ) (f g : ℕ → List ℕ) → ((j : ℕ) → j < m → f j ≡ g j) → joinTo m f ≡ joinTo m g
-unfolding joinTo
-join-ext zero f g e = refl
-join-ext (suc m) f g e = ap₂ _++_ (join-ext m f g (λ j h. e j (omega arith))) (e m (omega arith))
-
 module _ (n : ℕ) (k₁ k₂ : List ℕ) (same : (i j : ℕ) → i < n → j < n → cell n k₁ i j ≡ cell n k₂ i j) where
   rows-ext : rowsText n k₁ ≡ rowsText n k₂
   unfolding rowsText rowText cellText
-  rows-ext = join-ext n _ _ (λ i hi. join-ext n _ _ (λ j hj. ap (λ x. decimal x ++ (markAfter n j ∷ [])) (same i j hi hj)))
+  rows-ext = join-ext n _ _ (λ i hi. join-ext n _ _ (λ j hj. ap (λ x. marked x (markAfter n j)) (same i j hi hj)))
 
   text-ext : (l rule : ℕ) (d : List ℕ) → outcomeText (Plans n l rule d) k₁ ≡ outcomeText (Plans n l rule d) k₂
   unfolding outcomeText planText

@@ -11,9 +11,10 @@ use Rattle.star.specs.declared.refusals.Refusal.{Refusal}
 use Rattle.star.specs.declared.refusals.Refusal.the-variants.{Nodes, Slots, Rule, DemandAbove}
 use Rattle.star.specs.Refusals.{nodesOut, slotsOut, ruleOut, someCell, firstAbove, refusalNumber, refusalPlace}
 use Rattle.star.specs.Lines.{total, wholeFrame}
+use Rattle.pieces.specs.Text.{badInput, refusalText}
 use Rattle.planner.specs.Plans.{Plan}
 use Rattle.number_list.specs.Input.{listOf}
-use Rattle.matrix_text.specs.Text.{badInput, refusalText, planText}
+use Rattle.matrix_text.specs.Text.{planText}
 
 -- what the program answers an input with
 pub data Outcome : Type 0 where

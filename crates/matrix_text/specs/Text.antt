@@ -1,39 +1,12 @@
--- What is printed, as bytes. Every number is printed without leading zeros and every line ends with a line feed.
-use Prim.Native.Nat.{ℕ, zero, suc, _+_, _/_, _%_}
-use mathlib.Core.Bool.{true, false, cond}
-use mathlib.Core.List.{List, [], _∷_, _++_}
-use lib.Dec.{ltb, eqb}
+-- What is printed of a plan, as bytes. Every number is printed without leading zeros and every line ends with a line feed.
+use Prim.Native.Nat.{ℕ, _+_}
+use mathlib.Core.Bool.{cond}
+use mathlib.Core.List.{List, _++_}
+use lib.Dec.{eqb}
 use Rattle.sums.specs.Tables.{cell}
 use Rattle.pieces.specs.Bytes.{bytes}
-
--- the decimal digits of n in as many turns as are given, a digit each
-unfoldable pub digitsIn : (turns n : ℕ) → List ℕ
-digitsIn zero n = []
-digitsIn (suc turns) n = elim (ltb n 10) [ true ↦ (48 + n) ∷ [] | false ↦ digitsIn turns (n / 10) ++ ((48 + n % 10) ∷ []) ]
-
--- a number without leading zeros; 0 is one digit. More than n turns are enough.
-unfoldable pub decimal : ℕ → List ℕ
-decimal n = digitsIn (suc n) n
-
--- f 0, .., f (m - 1), one after the other
-unfoldable pub joinTo : ℕ → (ℕ → List ℕ) → List ℕ
-joinTo zero f = []
-joinTo (suc m) f = joinTo m f ++ f m
-
-abbrev lineFeed : List ℕ
-lineFeed = bytes "\n"
-
--- a word and a number
-unfoldable pub named : (word : List ℕ) (n : ℕ) → List ℕ
-named word n = word ++ decimal n
-
--- "bad input", and a line feed
-abbrev pub badInput : List ℕ
-badInput = bytes "bad input\n"
-
--- A refusal prints one line, as `refused 6 3`: the number, the place.
-unfoldable pub refusalText : (number place : ℕ) → List ℕ
-refusalText number place = named (bytes "refused ") number ++ named (bytes " ") place ++ lineFeed
+use Rattle.pieces.specs.Pieces.{joinTo}
+use Rattle.pieces.specs.Text.{lineFeed, marked, named}
 
 -- Line 1 gives N, L and the rule: `nodes 2 slots 10 rule 1`.
 unfoldable pub headText : (n l rule : ℕ) → List ℕ
@@ -49,7 +22,7 @@ markAfter n j = cond (eqb (j + 1) n) 10 32
 
 -- One line per source with its kept slots by destination.
 unfoldable pub cellText : (n : ℕ) (kept : List ℕ) (i j : ℕ) → List ℕ
-cellText n kept i j = decimal (cell n kept i j) ++ (markAfter n j ∷ [])
+cellText n kept i j = marked (cell n kept i j) (markAfter n j)
 
 unfoldable pub rowText : (n : ℕ) (kept : List ℕ) (i : ℕ) → List ℕ
 rowText n kept i = joinTo n (cellText n kept i)

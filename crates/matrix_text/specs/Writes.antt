@@ -1,25 +1,21 @@
 -- What the functions that write the text promise.
-use Prim.Native.Nat.{ℕ, _+_}
+use Prim.Native.Nat.{ℕ}
 use mathlib.Core.Path.{_≡_}
 use mathlib.Core.Bool.{Bool, true, false, _||_}
-use mathlib.Core.List.{List, _++_}
+use mathlib.Core.List.{List}
 use lib.Dec.{leb}
-use lib.ListN.{length, take, drop}
 use Rattle.star.specs.declared.refusals.Refusal.{Refusal}
 use Rattle.star.specs.declared.refusals.Verdict.the-variants.{Accepted}
 use Rattle.star.specs.Refusals.{refusalNumber, refusalPlace}
 use Rattle.star.specs.Tables.{Square}
+use Rattle.pieces.specs.Pieces.{Appended}
+use Rattle.pieces.specs.Text.{badInput, refusalText}
 use Rattle.planner.specs.declared.answers.Answer.{Answer}
 use Rattle.planner.specs.declared.answers.Answer.the-variants.{Planned, Refused}
 use Rattle.planner.specs.Plans.{verdictOf}
 use Rattle.number_list.specs.Reads.{Stored}
-use Rattle.matrix_text.specs.Text.{badInput, refusalText, planText}
+use Rattle.matrix_text.specs.Text.{planText}
 use Rattle.matrix_text.specs.Outcomes.{judge, Prints}
-
--- the text stands from `at` on, up to the place given back; all else is as before
-pub record Appended (out out' : List ℕ) (at at' : ℕ) (text : List ℕ) : Type 0 where
-  pub end : at' ≡ at + length text
-  pub bytes : out' ≡ take at out ++ text ++ drop at' out
 
 -- What is printed of a refusal of `plan`, where `whole` says that the count of demands is right: 1, 2 and 3 come before the count, the others
 -- after it.

@@ -1,9 +1,9 @@
 // The answer to an input, in document 01's order.
-use crate::text::put_bad_input;
 use crate::text::put_plan;
-use crate::text::put_refusal;
 use number_list::Listed;
 use number_list::read;
+use pieces::put_bad_input;
+use pieces::put_refusal;
 use planner::answers::Answer;
 use planner::plans::plan;
 use star::refusals::Refusal;
@@ -14,9 +14,10 @@ ghost use mathlib.Core.Path.{_≡_};
 ghost use Prim.Native.Nat.{_*_, _≤_, min};
 ghost use lib.Dec.{eqb};
 ghost use lib.ListN.{length};
+ghost use Rattle.pieces.specs.Pieces.{Appended};
 ghost use Rattle.matrix_text.specs.Text.{room};
 ghost use Rattle.matrix_text.specs.Outcomes.{Answered};
-ghost use Rattle.matrix_text.specs.Writes.{Appended, refusedText, answerText, Printable, Judged};
+ghost use Rattle.matrix_text.specs.Writes.{refusedText, answerText, Printable, Judged};
 
 // Bytes enough for the longest text.
 pub const ROOM: usize = 45141;
@@ -32,7 +33,7 @@ fn put_refused(out: &mut [u8], refusal: Refusal, whole: bool) -> usize
             return put_bad_input(out);
         }
     }
-    put_refusal(out, number(verdict), place(verdict))
+    put_refusal(out, number(verdict) as u64, place(verdict) as u64)
 }
 
 // Prints an answer of `plan`.

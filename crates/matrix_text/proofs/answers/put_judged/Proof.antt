@@ -2,8 +2,8 @@
 use lib.ListN.{getD, length-replicate}
 use Prim.Native.Nat.{ℕ}
 use mathlib.Core.Path.{refl, _∙_}
+use Rattle.pieces.specs.Text.{badInput}
 use Rattle.matrix_text.specs.Writes.{answerText}
-use Rattle.matrix_text.specs.Text.{badInput}
 use Rattle.matrix_text.proofs.OutcomeLaws.{few-print, printable, stored-prints}
 use borrow.Author.Needs.{needs}
 use Rattle.matrix_text.proofs.answers.put_judged.Statement.{statement}

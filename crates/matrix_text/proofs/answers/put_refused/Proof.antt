@@ -4,8 +4,8 @@ use mathlib.Core.Path.{_≡_, _∙_, ap₂, sym}
 use mathlib.Core.Logic.{⊎-elim}
 use borrow.Author.Tests.{not-true, not-false}
 use Rattle.star.specs.Refusals.{refusalNumber, refusalPlace}
+use Rattle.pieces.specs.Text.{refusalText}
 use Rattle.matrix_text.specs.Writes.{refusedText}
-use Rattle.matrix_text.specs.Text.{refusalText}
 use Rattle.matrix_text.proofs.OutcomeLaws.{refused-early, refused-whole, refused-late}
 use borrow.Author.Needs.{needs}
 use Rattle.matrix_text.proofs.answers.put_refused.Statement.{statement}
@@ -26,8 +26,14 @@ returns c = rw (refused-late (c .before .before .before .before .before .before 
 number-requires-2 : tie.Need-number-requires-2
 number-requires-2 c κs = search needs
 
+cast-put-refusal : tie.Need-cast-put-refusal
+cast-put-refusal c = search needs
+
 place-requires : tie.Need-place-requires
 place-requires c κs = search needs
+
+cast-put-refusal-2 : tie.Need-cast-put-refusal-2
+cast-put-refusal-2 c = search needs
 
 put-refusal-requires : tie.Need-put-refusal-requires
 put-refusal-requires c κs = search needs
@@ -50,7 +56,9 @@ put-refused-spec =
     same-length
     returns
     number-requires-2
+    cast-put-refusal
     place-requires
+    cast-put-refusal-2
     put-refusal-requires
     same-length-2
     returns-2)

@@ -1,9 +1,5 @@
--- `put_cell` appends a number and the byte after it: two pieces are one. Assumes nothing.
-use mathlib.Core.Path.{_∙_, ap}
-use native.Mathlib.Omega.{arith}
-use lib.ListN.{length-append, length}
-use Rattle.matrix_text.proofs.TextLaws.{appended-more}
-use Rattle.matrix_text.specs.Text.{cellText, decimal}
+-- `put_cell` appends a number and the byte after it, which are the cell's and the destination's. Assumes nothing.
+use Rattle.matrix_text.specs.Text.{cellText}
 use borrow.Author.Needs.{needs}
 use Rattle.matrix_text.proofs.text.put_cell.Statement.{statement}
 use Rattle.matrix_text.proofs.text.put_cell.Tie as tie
@@ -11,33 +7,30 @@ use Rattle.matrix_text.proofs.text.put_cell.Tie as tie
 get-requires : tie.Need-get-requires
 get-requires c κs = search needs
 
-put-number-requires : tie.Need-put-number-requires
-unfolding cellText
-put-number-requires c κs = rw (c .get .ensures) (omega (arith, simp length-append at (c .before .before .before .before .pre .1)))
+cast-put-marked : tie.Need-cast-put-marked
+cast-put-marked c = search needs
 
 mark-after-requires : tie.Need-mark-after-requires
 mark-after-requires c κs = search needs
 
-put-byte-requires : tie.Need-put-byte-requires
+put-marked-requires : tie.Need-put-marked-requires
 unfolding cellText
-put-byte-requires c κs = omega (arith, simp length-append at (c .before .before .before .before .before .before .before .before .before .pre .1), c .before .before .before .before .put-number .ensures .end, c .before .before .before .before .put-number .kept .0, ap (λ x. length (decimal x)) (c .before .before .before .before .before .get .ensures))
+put-marked-requires c κs = rw (c .before .get .ensures, c .mark-after .ensures) (c .before .before .before .before .before .pre .1)
 
 same-length : tie.Need-same-length
-same-length c = c .before .before .put-byte .kept .0 ∙ c .before .before .before .before .before .before .before .put-number .kept .0
+same-length c = c .before .before .put-marked .kept .0
 
 returns : tie.Need-returns
 unfolding cellText
-returns c = let room = simp length-append at (c .before .before .before .before .before .before .before .before .before .before .before .before .pre .1) in
-    rw (← (c .before .before .before .before .before .before .before .before .get .ensures), ← (c .before .before .before .mark-after .ensures))
-    (appended-more (omega (arith, room, ap (λ x. length (decimal x)) (c .before .before .before .before .before .before .before .before .get .ensures))) (c .before .before .before .before .before .before .before .put-number .ensures) (c .before .before .put-byte .ensures))
+returns c = rw (← (c .before .before .before .before .get .ensures), ← (c .before .before .before .mark-after .ensures)) (c .before .before .put-marked .ensures)
 
 pub put-cell-spec : {M : Type 1} → statement M
 put-cell-spec =
     tie.close
     (tie.spec
     get-requires
-    put-number-requires
+    cast-put-marked
     mark-after-requires
-    put-byte-requires
+    put-marked-requires
     same-length
     returns)

@@ -3,8 +3,9 @@ use Prim.Native.Nat.{_≤_}
 use mathlib.Core.Path.{_∙_}
 use native.Mathlib.Omega.{arith}
 use lib.ListN.{length, length-append}
-use Rattle.matrix_text.proofs.TextLaws.{appended-more, plan-fits}
+use Rattle.pieces.proofs.PieceLaws.{appended-more}
 use Rattle.matrix_text.specs.Text.{planText, room}
+use Rattle.matrix_text.proofs.TextLaws.{plan-fits}
 use Rattle.matrix_text.proofs.text.put_plan.Statement.{statement}
 use Rattle.matrix_text.proofs.text.put_plan.Tie as tie
 

@@ -3,9 +3,9 @@ use Prim.Native.Nat.{_≤_, _-_}
 use mathlib.Core.Path.{_≡_, _∙_, refl}
 use native.Mathlib.Omega.{arith}
 use lib.ListN.{length}
-use Rattle.matrix_text.proofs.TextLaws.{appended-more, appended-none, join-none, join-more, join-part}
-use Rattle.matrix_text.specs.Writes.{Appended}
-use Rattle.matrix_text.specs.Text.{cellText, rowText, joinTo}
+use Rattle.pieces.specs.Pieces.{Appended, joinTo}
+use Rattle.pieces.proofs.PieceLaws.{appended-more, appended-none, join-none, join-more, join-part}
+use Rattle.matrix_text.specs.Text.{cellText, rowText}
 use Rattle.matrix_text.proofs.text.put_row.Statement.{statement}
 use Rattle.matrix_text.proofs.text.put_row.Tie as tie
 

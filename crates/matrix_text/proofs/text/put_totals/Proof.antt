@@ -2,7 +2,7 @@
 use mathlib.Core.Path.{_∙_}
 use native.Mathlib.Omega.{arith}
 use lib.ListN.{length-append}
-use Rattle.matrix_text.proofs.TextLaws.{appended-more}
+use Rattle.pieces.proofs.PieceLaws.{appended-more}
 use Rattle.matrix_text.specs.Text.{totalsText}
 use borrow.Author.Needs.{needs}
 use Rattle.matrix_text.proofs.text.put_totals.Statement.{statement}
