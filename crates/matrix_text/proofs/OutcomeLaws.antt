@@ -20,16 +20,16 @@ use Rattle.star.specs.declared.refusals.Verdict.the-variants as verdict
 use Rattle.star.specs.Refusals.{refuse, nodesOut, slotsOut, ruleOut, short, someCell, firstAbove, refusalNumber, refusalPlace}
 use Rattle.star.specs.Lines.{total, wholeFrame}
 use Rattle.star.proofs.RefusalLaws.{fires, passes, neither, in-its-range}
-use Rattle.pieces.specs.Pieces.{Appended}
+use Rattle.pieces.specs.Pieces.{Appended, Answered}
 use Rattle.pieces.specs.Text.{badInput, refusalText}
-use Rattle.pieces.proofs.PieceLaws.{appended-front}
+use Rattle.pieces.proofs.PieceLaws.{answered-text}
 use Rattle.planner.specs.declared.answers.Answer.{Answer}
 use Rattle.planner.specs.declared.answers.Answer.the-variants.{Planned, Refused}
 use Rattle.planner.specs.Plans.{verdictOf, keptTotal, refusedTotal, changes, planVerdict, Plan, PlanResult}
 use Rattle.number_list.specs.Input.{listOf}
 use Rattle.number_list.specs.Reads.{Stored, Holds}
 use Rattle.matrix_text.specs.Text.{planText}
-use Rattle.matrix_text.specs.Outcomes.{Outcome, BadInput, Refuses, Plans, orElse, judge, judgeList, outcome, outcomeText, Prints, Answered}
+use Rattle.matrix_text.specs.Outcomes.{Outcome, BadInput, Refuses, Plans, orElse, judge, judgeList, outcome, outcomeText, Prints}
 use Rattle.matrix_text.specs.Writes.{refusedText, answerText, Printable, Judged}
 
 -- ---- tests
@@ -240,27 +240,17 @@ module _ (table numbers : List ℕ) (count end : ℕ) (size : length table ≡ 4
         (λ few e. demands (omega (arith, counted, mul-small n n few few)))))
 
 -- ---- the whole input
-answered : {input out out' text : List ℕ} {r : ℕ} {o : Outcome} → outcome input ≡ o → Prints o text → Appended out out' 0 r text → Answered input out out' r
-answered {input} {out} {out'} {text} {r} e p a = record {
-  text = text;
-  prints = rw e p;
-  bytes = appended-front out out' text r a;
-  end = omega (arith, a .end);
-}
+answered : (input : List ℕ) {out out' text : List ℕ} {r : ℕ} {o : Outcome} → outcome input ≡ o → Prints o text → Appended out out' 0 r text → Answered (Prints (outcome input)) out out' r
+answered input e p a = answered-text (rw e p) a
 
-pub answered-long : {input out out' : List ℕ} {r : ℕ} → 65536 < length input → Appended out out' 0 r badInput → Answered input out out' r
+pub answered-long : (input : List ℕ) {out out' : List ℕ} {r : ℕ} → 65536 < length input → Appended out out' 0 r badInput → Answered (Prints (outcome input)) out out' r
 unfolding outcome
-answered-long {input} h a = answered (taken BadInput _ (lt-ltb 65536 (length input) h)) (prints-bad BadInput badInput refl refl) a
+answered-long input h a = answered input (taken BadInput _ (lt-ltb 65536 (length input) h)) (prints-bad BadInput badInput refl refl) a
 
-pub answered-junk : {input out out' : List ℕ} {r : ℕ} → length input ≤ 65536 → listOf input ≡ none → Appended out out' 0 r badInput → Answered input out out' r
+pub answered-junk : (input : List ℕ) {out out' : List ℕ} {r : ℕ} → length input ≤ 65536 → listOf input ≡ none → Appended out out' 0 r badInput → Answered (Prints (outcome input)) out out' r
 unfolding outcome judgeList
-answered-junk {input} h e a = answered (left BadInput (le-ltb 65536 (length input) h) (ap judgeList e)) (prints-bad BadInput badInput refl refl) a
+answered-junk input h e a = answered input (left BadInput (le-ltb 65536 (length input) h) (ap judgeList e)) (prints-bad BadInput badInput refl refl) a
 
-pub answered-list : {input table out out' : List ℕ} {count r : ℕ} → length input ≤ 65536 → Holds input table count → Judged table count out out' r → Answered input out out' r
+pub answered-list : (input : List ℕ) {table out out' : List ℕ} {count r : ℕ} → length input ≤ 65536 → Holds input table count → Judged table count out out' r → Answered (Prints (outcome input)) out out' r
 unfolding outcome judgeList
-answered-list {input} h w j = answered (left BadInput (le-ltb 65536 (length input) h) (ap judgeList (w .listed))) (j .prints (w .numbers) (w .stored)) (j .wrote)
-
--- the text lies within the lent bytes
-pub answered-within : {input out out' : List ℕ} {r : ℕ} → Answered input out out' r → r ≤ length out'
-unfolding written
-answered-within {input} {out} {out'} {r} a = omega (arith, a .end, ap length (a .bytes), length-append (a .text) (drop (length (a .text)) out))
+answered-list input h w j = answered input (left BadInput (le-ltb 65536 (length input) h) (ap judgeList (w .listed))) (j .prints (w .numbers) (w .stored)) (j .wrote)

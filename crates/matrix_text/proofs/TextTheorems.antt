@@ -18,12 +18,13 @@ use Rattle.star.specs.Refusals.{firstAbove}
 use Rattle.star.specs.Lines.{total}
 use Rattle.star.proofs.LineLaws.{total-ext}
 use Rattle.star.proofs.RefusalLaws.{in-its-range, inside, within-range, none-above}
+use Rattle.pieces.specs.Pieces.{Answered}
 use Rattle.pieces.specs.Text.{marked}
-use Rattle.pieces.proofs.PieceLaws.{join-ext}
+use Rattle.pieces.proofs.PieceLaws.{join-ext, answered-same}
 use Rattle.planner.proofs.NeededLaws.{least-total}
 use Rattle.number_list.specs.Input.{listOf}
 use Rattle.matrix_text.specs.Text.{headText, totalsText, markAfter, cellText, rowText, rowsText, planText}
-use Rattle.matrix_text.specs.Outcomes.{Outcome, BadInput, Refuses, Plans, orElse, judge, judgeList, outcome, outcomeText, Prints, Answered}
+use Rattle.matrix_text.specs.Outcomes.{Outcome, BadInput, Refuses, Plans, orElse, judge, judgeList, outcome, outcomeText, Prints}
 use Rattle.matrix_text.specs.Theorems.{Same, LeastText, TextsAgree, InOrder, TextTheorems}
 use Rattle.matrix_text.proofs.OutcomeLaws.{left}
 
@@ -67,20 +68,16 @@ least-text n l d k e p is = record {
 
 -- ---- two answers
 -- past its text the lent bytes are as before
-past : {input out out' : List ℕ} {r : ℕ} (a : Answered input out out' r) (m : ℕ) → r ≤ m → drop m out' ≡ drop m out
+past : {promised : List ℕ → Type 0} {out out' : List ℕ} {r : ℕ} (a : Answered promised out out' r) (m : ℕ) → r ≤ m → drop m out' ≡ drop m out
 unfolding written
 past {out = out} a m h =
     let size = length (a .text) in
     let e : size + (m - size) ≡ m = omega (arith, a .end) in
     ap₂ drop (sym e) (a .bytes) ∙ drop-append-add (a .text) (drop size out) (m - size) ∙ drop-drop (m - size) size out ∙ ap (λ k. drop k out) e
 
-module _ (input out out₁ out₂ : List ℕ) (r₁ r₂ : ℕ) (a : Answered input out out₁ r₁) (b : Answered input out out₂ r₂) where
+module _ (input out out₁ out₂ : List ℕ) (r₁ r₂ : ℕ) (a : Answered (Prints (outcome input)) out out₁ r₁) (b : Answered (Prints (outcome input)) out out₂ r₂) where
   same : a .text ≡ b .text → Same (a .text) out₁ r₁ (b .text) out₂ r₂
-  same e = record {
-    texts = e;
-    bytes = a .bytes ∙ ap (λ t. written (length t) t out) e ∙ sym (b .bytes);
-    ends = a .end ∙ ap length e ∙ sym (b .end);
-  }
+  same e = let one = answered-same a b e in record { texts = e; bytes = one .0; ends = one .1 }
 
   text-unique : TextsAgree (outcome input) (a .text) out₁ r₁ (b .text) out₂ r₂
   text-unique = record {

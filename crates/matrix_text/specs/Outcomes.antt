@@ -6,7 +6,6 @@ use mathlib.Core.List.{List, [], _∷_}
 use mathlib.Core.Option.{Option, none, some}
 use lib.Dec.{ltb, eqb}
 use lib.ListN.{length}
-use Rattle.sums.specs.Tables.{written}
 use Rattle.star.specs.declared.refusals.Refusal.{Refusal}
 use Rattle.star.specs.declared.refusals.Refusal.the-variants.{Nodes, Slots, Rule, DemandAbove}
 use Rattle.star.specs.Refusals.{nodesOut, slotsOut, ruleOut, someCell, firstAbove, refusalNumber, refusalPlace}
@@ -65,10 +64,3 @@ pub record Prints (o : Outcome) (text : List ℕ) : Type 0 where
   pub schedule : List ℕ
   pub planned : (n l rule : ℕ) (d : List ℕ) → o ≡ Plans n l rule d → Plan n l rule (wholeFrame n l) d kept withdrawn schedule
   pub printed : text ≡ outcomeText o kept
-
--- What `answer` promises for every input: the text stands at the front of the lent bytes, which are else as before, and its length is given.
-pub record Answered (input out out' : List ℕ) (r : ℕ) : Type 0 where
-  pub text : List ℕ
-  pub prints : Prints (outcome input) text
-  pub bytes : out' ≡ written (length text) text out
-  pub end : r ≡ length text

@@ -6,10 +6,11 @@ use mathlib.Core.Option.{some}
 use lib.ListN.{length, getD, drop}
 use Rattle.star.specs.declared.refusals.Refusal.{Refusal}
 use Rattle.star.specs.Lines.{wholeFrame}
+use Rattle.pieces.specs.Pieces.{Answered}
 use Rattle.planner.specs.Plans.{Plan}
 use Rattle.number_list.specs.Input.{listOf}
 use Rattle.matrix_text.specs.Text.{headText, totalsText, rowsText}
-use Rattle.matrix_text.specs.Outcomes.{Outcome, BadInput, Refuses, Plans, outcome, Answered}
+use Rattle.matrix_text.specs.Outcomes.{Outcome, BadInput, Refuses, Plans, outcome, Prints}
 
 -- Two answers that are one: in the text, in every lent byte at exit, and in the length given.
 pub record Same (text₁ out₁ : List ℕ) (r₁ : ℕ) (text₂ out₂ : List ℕ) (r₂ : ℕ) : Type 0 where
@@ -54,7 +55,7 @@ pub record InOrder (input : List ℕ) (n l rule : ℕ) (d : List ℕ) : Type 0 w
 
 -- all of it: two answers agree, and just the inputs in order are planned, so that the rule of a plan is 0 or 1
 pub record TextTheorems : Type 0 where
-  pub unique : (input out out₁ out₂ : List ℕ) (r₁ r₂ : ℕ) (a : Answered input out out₁ r₁) (b : Answered input out out₂ r₂) →
+  pub unique : (input out out₁ out₂ : List ℕ) (r₁ r₂ : ℕ) (a : Answered (Prints (outcome input)) out out₁ r₁) (b : Answered (Prints (outcome input)) out out₂ r₂) →
       TextsAgree (outcome input) (a .text) out₁ r₁ (b .text) out₂ r₂
   pub planned : (input : List ℕ) (n l rule : ℕ) (d : List ℕ) → InOrder input n l rule d → outcome input ≡ Plans n l rule d
   pub only : (input : List ℕ) (n l rule : ℕ) (d : List ℕ) → outcome input ≡ Plans n l rule d → InOrder input n l rule d

@@ -14,9 +14,9 @@ ghost use mathlib.Core.Path.{_≡_};
 ghost use Prim.Native.Nat.{_*_, _≤_, min};
 ghost use lib.Dec.{eqb};
 ghost use lib.ListN.{length};
-ghost use Rattle.pieces.specs.Pieces.{Appended};
+ghost use Rattle.pieces.specs.Pieces.{Appended, Answered};
 ghost use Rattle.matrix_text.specs.Text.{room};
-ghost use Rattle.matrix_text.specs.Outcomes.{Answered};
+ghost use Rattle.matrix_text.specs.Outcomes.{outcome, Prints};
 ghost use Rattle.matrix_text.specs.Writes.{refusedText, answerText, Printable, Judged};
 
 // Bytes enough for the longest text.
@@ -119,7 +119,7 @@ fn put_judged(out: &mut [u8], table: &[u32], count: usize) -> usize
 
 // Writes the answer to an input at the front of `out`, and gives its length.
 pub fn answer(input: &[u8], out: &mut [u8; ROOM]) -> usize
-    ensures { λ r. ⌜ Answered (now (input .entry)) (now (out .entry)) (now (out .exit)) r ⌝ }
+    ensures { λ r. ⌜ Answered (Prints (outcome (now (input .entry)))) (now (out .entry)) (now (out .exit)) r ⌝ }
 {
     if input.len() > 65536 {
         return put_bad_input(out);

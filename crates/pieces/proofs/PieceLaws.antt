@@ -121,3 +121,8 @@ module _ {promised : List ℕ → Type 0} {out out' : List ℕ} {k : ℕ} where
   -- what is promised of a text may be said otherwise
   pub answered-as : {other : List ℕ → Type 0} → ((text : List ℕ) → promised text → other text) → Answered promised out out' k → Answered other out out' k
   answered-as f a = record { text = a .text; prints = f (a .text) (a .prints); bytes = a .bytes; end = a .end }
+
+-- two answers with one text agree in every lent byte and in the length
+pub answered-same : {one other : List ℕ → Type 0} {out out₁ out₂ : List ℕ} {r₁ r₂ : ℕ} (a : Answered one out out₁ r₁) (b : Answered other out out₂ r₂) → a .text ≡ b .text →
+    (out₁ ≡ out₂) × (r₁ ≡ r₂)
+answered-same {out = out} a b e = (a .bytes ∙ ap (λ t. written (length t) t out) e ∙ sym (b .bytes), a .end ∙ ap length e ∙ sym (b .end))

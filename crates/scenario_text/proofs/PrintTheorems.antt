@@ -7,7 +7,7 @@ use borrow.Author.Tests.{le-ltb}
 use Rattle.sums.specs.Tables.{written}
 use Rattle.star.proofs.AlikeLaws.{alike-at}
 use Rattle.star.proofs.RefusalLaws.{passes}
-use Rattle.pieces.proofs.PieceLaws.{join-ext}
+use Rattle.pieces.proofs.PieceLaws.{join-ext, answered-same}
 use Rattle.run.specs.Held.{Held}
 use Rattle.run.specs.Theorems.{HeldAlike}
 use Rattle.files.specs.Format.{nodesOf, entriesOf}
@@ -44,7 +44,6 @@ print-theorems = record {
           posted = play-theorems .posted input (entriesOf input) (a .h) (b .h) (a .played) (b .played);
         };
   };
-  bytes = λ input out out₁ out₂ r₁ r₂ a b same.
-      (a .bytes ∙ ap (λ t. written (length t) t out) same ∙ sym (b .bytes), a .end ∙ ap length same ∙ sym (b .end));
+  bytes = λ input out out₁ out₂ r₁ r₂ a b same. answered-same a b same;
   accepts = λ file text text' r p enough. p .answer ∙ sym (passes _ (le-ltb (length text) room enough) refl);
 }

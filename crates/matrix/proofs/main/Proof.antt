@@ -1,8 +1,8 @@
 -- `main` lends only what is there: the text of an answer lies within the bytes lent to it. Assumes nothing.
 use mathlib.Core.Path.{sym}
 use lib.Seq.{length-take-le}
-use Rattle.matrix_text.proofs.OutcomeLaws.{answered-within}
 use borrow.Author.Needs.{needs}
+use Rattle.pieces.proofs.PieceLaws.{answered-within}
 use Rattle.matrix.proofs.main.Statement.{statement}
 use Rattle.matrix.proofs.main.Tie as tie
 

@@ -8,7 +8,7 @@ put-bad-input-requires : tie.Need-put-bad-input-requires
 put-bad-input-requires c κs = search needs
 
 returns : tie.Need-returns
-returns c = answered-long (c .before .before .if1 .taken) (c .put-bad-input .ensures)
+returns c = answered-long _ (c .before .before .if1 .taken) (c .put-bad-input .ensures)
 
 slice-aggregate-read : tie.Need-slice-aggregate-read
 slice-aggregate-read c = search needs
@@ -32,10 +32,10 @@ put-judged-requires : tie.Need-put-judged-requires
 put-judged-requires c κs = search needs
 
 returns-2 : tie.Need-returns-2
-returns-2 c = answered-junk (c .before .before .before .before .before .before .before .if1 .left) (rw (c .before .before .enum-told .given .1) at (c .before .before .before .before .before .read .ensures)) (c .put-bad-input2 .ensures)
+returns-2 c = answered-junk _ (c .before .before .before .before .before .before .before .if1 .left) (rw (c .before .before .enum-told .given .1) at (c .before .before .before .before .before .read .ensures)) (c .put-bad-input2 .ensures)
 
 returns-3 : tie.Need-returns-3
-returns-3 c = answered-list (c .before .before .before .before .before .before .before .before .before .if1 .left) (rw (c .before .before .before .before .listed .given .1) at (c .before .before .before .before .before .before .before .read .ensures)) (c .put-judged .ensures)
+returns-3 c = answered-list _ (c .before .before .before .before .before .before .before .before .before .if1 .left) (rw (c .before .before .before .before .listed .given .1) at (c .before .before .before .before .before .before .before .read .ensures)) (c .put-judged .ensures)
 
 pub answer-spec : {M : Type 1} → statement M
 answer-spec =
