@@ -33,6 +33,6 @@ badInput = bytes "bad input\n"
 unfoldable pub refusalText : (number place : ℕ) → List ℕ
 refusalText number place = named (bytes "refused ") number ++ named (bytes " ") place ++ lineFeed
 
--- Room for the longest of the two: "refused ", two numbers of at most twenty digits, a space and a line feed.
+-- Room for `bad input` and for the longest refusal: "refused ", two numbers of at most twenty digits, a space and a line feed.
 abbrev pub lineRoom : ℕ
 lineRoom = 50

@@ -1,5 +1,5 @@
-// Bytes written piece by piece, and the text that the programs share. Each function that puts a piece gives the place after it. A piece is written from `at` on, and
-// must fit; the two whole texts, of bad input and of a refusal, are written from the front, and ask for room for the longest.
+// Bytes written piece by piece, and the text that the programs share. Each function that puts a piece gives the place after it. A piece is written from
+// `at` on, and must fit; the two whole texts, of bad input and of a refusal, are written from the front, and ask for room for the longest.
 ghost use mathlib.Core.List.{[], _∷_};
 ghost use Prim.Native.Nat.{_+_, _<_, _≤_};
 ghost use lib.ListN.{length};
