@@ -6,16 +6,16 @@ use lib.ListN.{length}
 use Rattle.star.specs.declared.refusals.Refusal.{Refusal}
 use Rattle.star.specs.declared.refusals.Refusal.the-variants.{TableShort}
 use Rattle.star.specs.declared.refusals.Verdict.{Verdict}
-use Rattle.star.specs.declared.refusals.Verdict.the-variants as verdict
+use Rattle.star.specs.declared.refusals.Verdict.the-variants.{Accepted, Refused}
 use Rattle.star.specs.Refusals.{refusalNumber, refusalPlace, Notice, noticeOf, accepted, check, refuse, short}
 use Rattle.pieces.specs.Pieces.{Answered}
 use Rattle.pieces.specs.Text.{badInput, refusalText}
 use Rattle.run.specs.Held.{Held}
+use Rattle.files.specs.declared.filled.Filled.{Filled}
+use Rattle.files.specs.Filled.{filledVerdict, filledLength}
 use Rattle.files.specs.Format.{nodesOf, entriesOf}
 use Rattle.files.specs.Reading.{readVerdict}
 use Rattle.play.specs.Plays.{Played}
-use Rattle.scenario_text.specs.declared.answers.Printing.{Printing}
-use Rattle.scenario_text.specs.declared.answers.Printing.the-variants.{Printed, Refused}
 use Rattle.scenario_text.specs.Lines.{heldText, room}
 
 -- The whole file is played, and the text is the lines of what is held then.
@@ -27,31 +27,21 @@ pub record PrintsRun (file text : List ℕ) : Type 0 where
 -- Over 65,536 bytes print `bad input`. A refusal prints as in the matrix program, before anything is played. Else the file is played.
 pub record PrintsFile (input text : List ℕ) : Type 0 where
   pub long : 65536 < length input → text ≡ badInput
-  pub refused : length input ≤ 65536 → (r : Refusal) → readVerdict input ≡ verdict.Refused r → text ≡ refusalText (refusalNumber r) (refusalPlace r)
-  pub played : length input ≤ 65536 → readVerdict input ≡ verdict.Accepted → PrintsRun input text
+  pub refused : length input ≤ 65536 → (r : Refusal) → readVerdict input ≡ Refused r → text ≡ refusalText (refusalNumber r) (refusalPlace r)
+  pub played : length input ≤ 65536 → readVerdict input ≡ Accepted → PrintsRun input text
 
 -- ---- into bytes of any length
 -- 5 where the lent bytes have no room for the longest text
 unfoldable pub printVerdict : (lent : ℕ) → Verdict
-printVerdict lent = refuse (short lent room) TableShort verdict.Accepted
+printVerdict lent = refuse (short lent room) TableShort Accepted
 
 -- the same in the documents' numbers
 unfoldable pub printNotice : (lent : ℕ) → Notice
 printNotice lent = check (short lent room) 5 0 accepted
 
--- the verdict of a printing
-abbrev pub printingVerdict : Printing → Verdict
-printingVerdict (Printed k) = verdict.Accepted
-printingVerdict (Refused r) = verdict.Refused r
-
--- the length of its text; a refusal's is zero
-abbrev pub printedLength : Printing → ℕ
-printedLength (Printed k) = k
-printedLength (Refused r) = 0
-
 -- What `print` promises for every file and every lent bytes: the text for the file, or a refusal that writes nothing.
-pub record PrintResult (file text text' : List ℕ) (r : Printing) : Type 0 where
-  pub answer : printingVerdict r ≡ printVerdict (length text)
-  pub notice : noticeOf (printingVerdict r) ≡ printNotice (length text)
-  pub accepted : printingVerdict r ≡ verdict.Accepted → Answered (PrintsFile file) text text' (printedLength r)
-  pub refused : (x : Refusal) → printingVerdict r ≡ verdict.Refused x → text' ≡ text
+pub record PrintResult (file text text' : List ℕ) (r : Filled) : Type 0 where
+  pub answer : filledVerdict r ≡ printVerdict (length text)
+  pub notice : noticeOf (filledVerdict r) ≡ printNotice (length text)
+  pub accepted : filledVerdict r ≡ Accepted → Answered (PrintsFile file) text text' (filledLength r)
+  pub refused : (x : Refusal) → filledVerdict r ≡ Refused x → text' ≡ text

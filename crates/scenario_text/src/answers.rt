@@ -1,5 +1,6 @@
 // The answer to an input: `bad input`, a refusal, or the lines of the run.
 use crate::lines::put_lines;
+use files::filled::Filled;
 use files::reading::Reading;
 use files::reading::read;
 use pieces::put_bad_input;
@@ -23,12 +24,6 @@ ghost use Rattle.scenario_text.specs.Outcomes.{PrintsFile, PrintsRun, Pr
 
 // Bytes enough for the longest text.
 pub const ROOM: usize = 516096;
-
-// The length of what was printed, or the refusal.
-pub enum Printing {
-    Printed { length: u32 },
-    Refused { refusal: Refusal },
-}
 
 // Prints a refusal.
 fn put_refused(out: &mut [u8], refusal: Refusal) -> usize
@@ -80,15 +75,15 @@ pub fn answer(input: &[u8], out: &mut [u8; ROOM]) -> usize
 }
 
 // The same into bytes of any length: refused by 5, and then nothing is written, where they are fewer than the longest text may take.
-pub fn print(file: &[u8], text: &mut [u8]) -> Printing
+pub fn print(file: &[u8], text: &mut [u8]) -> Filled
     ensures { λ r. ⌜ PrintResult (now (file .entry)) (now (text .entry)) (now (text .exit)) r ⌝ }
 {
     if text.len() < ROOM {
-        return Printing::Refused {
+        return Filled::Refused {
             refusal: Refusal::TableShort,
         };
     }
-    Printing::Printed {
+    Filled::Bytes {
         length: put_answer(text, file) as u32,
     }
 }
