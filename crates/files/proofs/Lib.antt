@@ -1,2 +1,3 @@
--- The laws of what an accepted file has passed.
+-- The laws of what an accepted file has passed, and the definitions at their edges.
+pub mod Examples
 pub mod ReadLaws
