@@ -6,33 +6,38 @@
  *   1  N is not 1 to 64
  *   2  L is not 1 to 1024
  *   3  the rule is neither 0 (fair) nor 1 (least)
- *   4  demand or arrivals are shorter than N * N
+ *   4  demand or arrivals are shorter than N * N, or a scenario's than N * N for each post
  *   5  a table to be written, or one of a run's four, is too short
  *   6  a demand or arrival is above 65535; the place is its cell
  *   7  the queue limit is not 1 to 65535
  *   8  a pair's books disagree; the place is its cell
  *   9  this kind of call was accepted 1000000 times or more already
+ *  10  what is no scenario; the place is its entry, counted from 0, or 0 where it is about none
  *
  * Checks run in the order 1, 2, 3, 7, 4, 5, 8, 9, 6 as far as they apply to the entry, and the
- * first that fires is given. The place is 0 unless said otherwise; of several bad cells the first
- * one is given. A refusal changes no table and nothing in the record of a run; it writes the place,
- * and zeros to the rest of a report.
+ * first that fires is given; where 10 stands is said at the entries about scenarios. The place is 0
+ * unless said otherwise; of several bad cells, or entries, the first one is given. A refusal changes
+ * no table and nothing in the record of a run; it writes the place, and zeros to the rest of a
+ * report.
  *
  * A table is lent as a pointer and its number of cells. A longer one than needed is accepted; its
- * extra cells are neither read nor changed. Pair (i,j), source i to destination j, is cell
+ * extra cells are neither read nor changed. (The kinds of a scenario, and a file to be played, have
+ * no extra cells: all that is lent belongs to it.) Pair (i,j), source i to destination j, is cell
  * i * N + j. Lines 0 to N - 1 are the rows of a matrix, line N + j is its column j. Slot k,
  * destination j is byte k * N + j of a schedule: the source that it hears, or 255 for idle.
  *
  * What the caller must keep, and there is nothing else:
  *
- *   - each pointer is valid for as many cells as are given with it, that of a report for four, that
- *     of a record or a place for one: to be read and, unless it is const, to be written (a record
- *     only where the call is accepted);
- *   - none is NULL but that of a table of 0 cells, with which every call is refused, by 4 or 5 if by
- *     nothing before;
+ *   - each pointer is valid for as many cells as are given with it, that of a report for four or
+ *     two, as it is declared, that of a record or a place for one: to be read and, unless it is
+ *     const, to be written (a record only where the call is accepted);
+ *   - none is NULL but that of a table of 0 cells. With such a table every call is refused, by 4 or
+ *     5 if by nothing before, but for these: a scenario may be written without kinds, and without
+ *     cells where it has no posts, and a file of 0 bytes may be played;
  *   - each pointer is aligned as its type asks;
- *   - nothing that is lent to a call overlaps: no two tables, no table and the record, *place or the
- *     report, nor the record and *place or the report. So &run.posts is no place for a call on run;
+ *   - nothing that is lent to a call overlaps, but for kinds and cells, which are both only read: no
+ *     two tables, no table and the record, *place or the report, nor the record and *place or the
+ *     report. So &run.posts is no place for a call on run;
  *   - during a call nobody else writes to what is lent, nor reads what the call writes.
  *
  * An entry keeps nothing between calls, takes no memory but its stack, and may be called from
@@ -44,13 +49,16 @@
  * The stack that a call needs, measured of the x86-64 code at N 64 and L 1024 over many families of
  * demands, rounded up, in bytes:
  *
- *   slacks         1200
- *   fresh, post     250
- *   plan, frame    3900 under either rule
+ *   slacks            1200
+ *   fresh, post        250
+ *   plan, frame       3900 under either rule
+ *   write_scenario     250
+ *   play_scenario   250000 under either rule
  *
  * Of these, placing what is kept takes 1500. No function of the library calls itself, and a call
- * takes the same whatever is asked; so 4 KiB are enough for every entry. A program that binds
- * symbols lazily may take 4 KiB more when memset or memcpy is called first. */
+ * takes the same whatever is asked; so 4 KiB are enough for every entry but play_scenario, which
+ * holds the tables of the run that it plays. A program that binds symbols lazily may take 4 KiB more
+ * when memset or memcpy is called first. */
 
 #ifndef GYODAEBEUN_H
 #define GYODAEBEUN_H
@@ -203,6 +211,61 @@ uint32_t gyodaebeun_frame(struct gyodaebeun_run *run,
                           uint32_t *withdrawn, size_t withdrawn_length,
                           uint8_t *schedule, size_t schedule_length,
                           uint32_t report[4]);
+
+/* A scenario is a run kept as one file of bytes. It begins with a table of numbers of four bytes: N,
+ * L, the queue limit, the rule, the number of entries, at most 4096; then two numbers for each
+ * entry, its kind, 0 for a post and 1 for a frame, and the place of its matrix, counted in bytes
+ * from the file's start, 0 for a frame. The matrices of the posts stand behind the table, row by
+ * row, two bytes for a cell. Of each number the lowest byte comes first. */
+
+/* Writes a scenario to the front of file, with a matrix for each post, the first right behind the
+ * table, each of the others right behind the one before. The length is
+ * 20 + 8 * entries + 2 * N * N * posts; the bytes behind it stay as they were. It may be more than
+ * gyodaebeun_play_scenario plays.
+ *
+ * rule    0 fair, 1 least
+ * kinds   a cell for each entry, in the order in which they are played, read: 0 post, 1 frame. Their
+ *         number is the number of entries
+ * cells   N * N cells for each post, one post after the other, read
+ * file    as many bytes as the length, written
+ * report  2 cells, written: the place and the length
+ *
+ * Refusals: 10 with place 0 for more than 4096 entries, 1, 2, 3, 7, 10 with the first entry that is
+ * neither a post nor a frame, 4, 5, 6 with the first such cell, counted on from post to post, in
+ * this order. */
+uint32_t gyodaebeun_write_scenario(uint32_t nodes, uint32_t slots, uint32_t limit, uint32_t rule,
+                                   const uint32_t *kinds, size_t kinds_length,
+                                   const uint32_t *cells, size_t cells_length,
+                                   uint8_t *file, size_t file_length,
+                                   uint32_t report[2]);
+
+/* How many bytes gyodaebeun_play_scenario must be lent for its text. */
+#define GYODAEBEUN_TEXT_BYTES 516096
+
+/* Plays a scenario: a fresh start, then each entry as a post of its matrix or a frame. The text has a
+ * line for each pair with anything posted, in row order: its source, destination, and what of it was
+ * posted, sent, dropped and is waiting at the end, parted by one space. Without posts there is no
+ * line. Where several plans are right the library chooses one; so under the least rule what was
+ * sent, dropped and is waiting may differ from what another player prints.
+ *
+ * A matrix may stand anywhere between the table and the end of the file; posts may share one, or
+ * parts of one, and bytes of no matrix are not looked at.
+ *
+ * Bytes that are no scenario are not refused: the text says so. It is "bad input" for more than
+ * 65536 bytes. Otherwise, before anything is played, it is "refused" with a number and a place, as
+ * "refused 10 0", for the first of these: 10 with place 0 for a table that is cut short or has more
+ * than 4096 entries; 1, 2, 3, 7; 10 with the first entry that is neither a post nor a frame, that is
+ * a frame with a place other than 0, or whose matrix does not lie wholly between the table and the
+ * end of the file. Every line of the text ends with a line feed; no zero byte follows the last.
+ *
+ * file    any bytes, read
+ * text    GYODAEBEUN_TEXT_BYTES bytes, of which the text is written and no more
+ * report  2 cells, written: the place, which is 0, and the length of the text
+ *
+ * Refusals: 5, exactly if text has fewer than GYODAEBEUN_TEXT_BYTES bytes. */
+uint32_t gyodaebeun_play_scenario(const uint8_t *file, size_t file_length,
+                                  uint8_t *text, size_t text_length,
+                                  uint32_t report[2]);
 
 #ifdef __cplusplus
 }

@@ -17,6 +17,6 @@ fn main() {
             most,
             family,
         } = call.stack_taken(&mut Random::seeded(SEED), DEMANDS);
-        println!("{:<18}{least:>8}{most:>8}  {family}", call.name);
+        println!("{:<22}{least:>8}{most:>8}  {family}", call.name);
     }
 }

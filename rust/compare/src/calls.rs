@@ -1,7 +1,7 @@
 //! The library's calls at N 64 and L 1,024, and how much stack each takes: all entries, and placing
 //! by itself. They are made in C, so that nothing of a wrapper is measured.
 
-use gyodaebeun::{Run, raw};
+use gyodaebeun::{FRAME, POST, Run, TEXT_BYTES, raw};
 use second::inputs::{FAMILIES, Random};
 use second::limits::{FAIR, LEAST};
 
@@ -20,7 +20,7 @@ pub struct Call {
     call: fn(&mut Tables) -> u32,
 }
 
-pub const CALLS: [Call; 9] = [
+pub const CALLS: [Call; 12] = [
     Call::new("slacks", FAIR, slacks),
     Call::new("plan, fair", FAIR, plan),
     Call::new("plan, least", LEAST, plan),
@@ -28,6 +28,9 @@ pub const CALLS: [Call; 9] = [
     Call::new("post", FAIR, post),
     Call::new("frame, fair", FAIR, frame),
     Call::new("frame, least", LEAST, frame),
+    Call::new("write_scenario", FAIR, write_scenario),
+    Call::new("play_scenario, fair", FAIR, play_scenario),
+    Call::new("play_scenario, least", LEAST, play_scenario),
     Call::new("placement, fair", FAIR, place),
     Call::new("placement, least", LEAST, place),
 ];
@@ -94,11 +97,16 @@ struct Tables {
     kept: Vec<u32>,
     withdrawn: Vec<u32>,
     schedule: Vec<u8>,
+    file: Vec<u8>,
+    text: Vec<u8>,
 }
+
+/// The scenario's entries: the demand is posted, and a frame sent.
+const KINDS: [u32; 2] = [POST, FRAME];
 
 impl Tables {
     /// The demand stands in the queues too, after one post, and the rule's plan has been made: the
-    /// kept matrix is there to be placed.
+    /// kept matrix is there to be placed. The scenario is there to be played.
     fn asking(demand: Vec<u32>, rule: u32) -> Tables {
         let mut tables = Tables {
             rule,
@@ -118,9 +126,12 @@ impl Tables {
             kept: vec![0; PAIRS],
             withdrawn: vec![0; PAIRS],
             schedule: vec![0; (SLOTS * NODES) as usize],
+            file: vec![0; 20 + 8 * KINDS.len() + 2 * PAIRS],
+            text: vec![0; TEXT_BYTES],
             demand,
         };
         assert_eq!(plan(&mut tables), 0, "the plan was refused");
+        assert_eq!(write_scenario(&mut tables), 0, "the scenario was refused");
         tables
     }
 }
@@ -221,6 +232,38 @@ fn frame(tables: &mut Tables) -> u32 {
             tables.withdrawn.len(),
             tables.schedule.as_mut_ptr(),
             tables.schedule.len(),
+            &mut report,
+        )
+    }
+}
+
+fn write_scenario(tables: &mut Tables) -> u32 {
+    let mut report = [0; 2];
+    unsafe {
+        raw::gyodaebeun_write_scenario(
+            NODES,
+            SLOTS,
+            QUEUE_LIMIT,
+            tables.rule,
+            KINDS.as_ptr(),
+            KINDS.len(),
+            tables.demand.as_ptr(),
+            tables.demand.len(),
+            tables.file.as_mut_ptr(),
+            tables.file.len(),
+            &mut report,
+        )
+    }
+}
+
+fn play_scenario(tables: &mut Tables) -> u32 {
+    let mut report = [0; 2];
+    unsafe {
+        raw::gyodaebeun_play_scenario(
+            tables.file.as_ptr(),
+            tables.file.len(),
+            tables.text.as_mut_ptr(),
+            tables.text.len(),
             &mut report,
         )
     }

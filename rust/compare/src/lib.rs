@@ -1,9 +1,11 @@
 //! What the comparisons share: lent tables whose surroundings are watched, answers that both
-//! programs give in their own words, stars for the inner layers, the parties to a run, and calls
-//! whose stack is measured.
+//! programs give in their own words, stars for the inner layers, the parties to a run, the player of
+//! a scenario, the proved programs, and calls whose stack is measured.
 
 pub mod calls;
+pub mod program;
 pub mod run;
+pub mod scenario;
 
 use second::inputs::{FAMILIES, Random};
 use second::matrix::Matrix;

@@ -2,64 +2,14 @@
 //! byte. Under the least rule the kept matrix is free, so there the first two lines are compared,
 //! and the matrix is held to be admissible, at most the demand, and of the total printed.
 
-use std::io::Write;
-use std::path::{Path, PathBuf};
-use std::process::{Command, Stdio};
-use std::{env, thread};
-
+use compare::program::MATRIX;
 use second::inputs::Random;
 use second::matrix::{self, Matrix};
 use second::matrix_text::matrix_text;
 
-/// Where the gate leaves the program, or the file that the environment names.
-fn program() -> PathBuf {
-    env::var_os("GYODAEBEUN_MATRIX").map_or_else(built_here, PathBuf::from)
-}
-
-/// Runs the program, by an emulator where the environment names one.
-fn command() -> Command {
-    let Some(emulator) = env::var_os("GYODAEBEUN_EMULATOR") else {
-        return Command::new(program());
-    };
-    let mut command = Command::new(emulator);
-    command.arg(program());
-    command
-}
-
-fn built_here() -> PathBuf {
-    let repository = Path::new(env!("CARGO_MANIFEST_DIR")).ancestors().nth(2);
-    let program = repository
-        .expect("rust/ lies in it")
-        .join("target/bin/matrix");
-    assert!(program.is_file(), "build it with `rt check matrix`");
-    program
-}
-
-/// What the program prints of an input, which is handed over in pieces of this size.
-fn printed(input: &[u8], piece: usize) -> Vec<u8> {
-    let mut child = command()
-        .stdin(Stdio::piped())
-        .stdout(Stdio::piped())
-        .spawn()
-        .expect("the program runs");
-    let mut pipe = child.stdin.take().expect("it reads");
-    let input = input.to_vec();
-    let feeding = thread::spawn(move || {
-        for part in input.chunks(piece) {
-            // Where the program has read all that it looks at, the rest finds nobody.
-            if pipe.write_all(part).is_err() {
-                return;
-            }
-        }
-    });
-    let output = child.wait_with_output().expect("it ends");
-    feeding.join().expect("all is written");
-    output.stdout
-}
-
 #[track_caller]
 fn compared(input: &[u8], piece: usize) -> Vec<u8> {
-    let text = printed(input, piece);
+    let text = MATRIX.printed(input, piece);
     let expected = matrix_text(input);
     if expected.starts_with(b"nodes ") && first_line(&expected).ends_with(b" rule 1") {
         held_to_the_least_rule(input, &text, &expected);

@@ -1,9 +1,12 @@
 //! Tables without a cell lent to the C entries as NULL, which the header allows: every choice of an
-//! entry's tables, at every N. Such a call is refused, and nothing is written.
+//! entry's tables, at every N. Such a call is refused, and nothing is written; but for scenarios
+//! without kinds, which have no posts, and a file of 0 bytes, of which the text says that it is no
+//! scenario.
 
 use std::ptr;
 
-use gyodaebeun::{Run, raw};
+use gyodaebeun::{POST, Run, TEXT_BYTES, raw};
+use second::scenario;
 
 /// The pointer and the number of cells of a table, or NULL and 0.
 fn lent<T>(table: &mut [T], absent: bool) -> (*mut T, usize) {
@@ -227,4 +230,66 @@ fn frame() {
         let [place, kept, refused, reconfigurations] = report;
         [number, place, kept, refused, reconfigurations]
     });
+}
+
+/// One post, or none where the kinds are absent.
+#[test]
+fn write_scenario() {
+    for (nodes, choice) in choices(3) {
+        let cells = vec![1; (nodes * nodes) as usize];
+        let before = vec![7; 28 + 2 * cells.len()];
+        let (mut kinds, mut cells, mut file) = (vec![POST], cells, before.clone());
+        let (kinds, kinds_length) = lent(&mut kinds, has(choice, 0));
+        let (cells, cells_length) = lent(&mut cells, has(choice, 1));
+        let (bytes, bytes_length) = lent(&mut file, has(choice, 2));
+        let mut report = [u32::MAX; 2];
+        let number = unsafe {
+            raw::gyodaebeun_write_scenario(
+                nodes,
+                SLOTS,
+                6,
+                1,
+                kinds,
+                kinds_length,
+                cells,
+                cells_length,
+                bytes,
+                bytes_length,
+                &mut report,
+            )
+        };
+        let mut after = before;
+        let expected = match [0, 1, 2].map(|table| has(choice, table)) {
+            [false, true, _] => 4,
+            [_, _, true] => 5,
+            _ => 0,
+        };
+        if expected == 0 {
+            let written = scenario::write(nodes, SLOTS, 6, 1, &[], &[], &mut after);
+            assert_eq!(written, Ok(20));
+        }
+        let length = if expected == 0 { 20 } else { 0 };
+        assert_eq!((number, report), (expected, [0, length]), "{choice:b}");
+        assert_eq!(file, after, "N {nodes}, choice {choice:b}");
+    }
+}
+
+#[test]
+fn play_scenario() {
+    for choice in 1..4 {
+        let (mut file, mut text) = (vec![0; 20], vec![7; TEXT_BYTES]);
+        let (bytes, bytes_length) = lent(&mut file, has(choice, 0));
+        let (lines, lines_length) = lent(&mut text, has(choice, 1));
+        let mut report = [u32::MAX; 2];
+        let number = unsafe {
+            raw::gyodaebeun_play_scenario(bytes, bytes_length, lines, lines_length, &mut report)
+        };
+        let (expected, written): (u32, &[u8]) = match has(choice, 1) {
+            true => (5, b""),
+            false => (0, b"refused 10 0\n"),
+        };
+        assert_eq!((number, report), (expected, [0, written.len() as u32]));
+        let (front, rest) = text.split_at(written.len());
+        assert!(front == written && rest.iter().all(|&byte| byte == 7));
+    }
 }

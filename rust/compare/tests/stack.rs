@@ -15,9 +15,17 @@ fn placement() {
     at_most(2_048, "placement, least");
 }
 
+/// It holds the tables of the run that it plays.
 #[test]
-fn every_entry() {
-    for call in CALLS {
+fn playing() {
+    at_most(300_000, "play_scenario, fair");
+    at_most(300_000, "play_scenario, least");
+}
+
+#[test]
+fn every_other_entry() {
+    let plays = |name: &str| name.starts_with("play_scenario");
+    for call in CALLS.into_iter().filter(|call| !plays(call.name)) {
         at_most(4_096, call.name);
     }
 }

@@ -1,4 +1,4 @@
-//! Document 01, "Numbers".
+//! Document 01, "Numbers", and the one that document 02 adds.
 
 use std::ops::RangeInclusive;
 
@@ -16,8 +16,11 @@ pub const DEMAND: u32 = 65_535;
 /// How many posts, and how many frames, a run accepts.
 pub const CALLS: u32 = 1_000_000;
 
-/// The longest input of the matrix program, in bytes.
+/// The longest input of a program, in bytes.
 pub const INPUT: usize = 65_536;
 
-/// The most digits of a number in that input.
+/// The most digits of a number in the matrix program's input.
 pub const DIGITS: usize = 9;
+
+/// The most entries of a scenario file.
+pub const ENTRIES: usize = 4_096;

@@ -12,14 +12,14 @@ pub fn matrix_text(input: &[u8]) -> Vec<u8> {
     answer(input).unwrap_or_else(Wrong::text).into_bytes()
 }
 
-/// Why there is no plan to print.
-enum Wrong {
+/// Why there is nothing else to print.
+pub(crate) enum Wrong {
     BadInput,
     Refused(Refusal),
 }
 
 impl Wrong {
-    fn text(self) -> String {
+    pub(crate) fn text(self) -> String {
         match self {
             Wrong::BadInput => "bad input\n".to_string(),
             Wrong::Refused(Refusal { number, place }) => format!("refused {number} {place}\n"),

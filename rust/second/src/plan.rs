@@ -84,17 +84,21 @@ pub struct Plan {
     pub schedule: Vec<u8>,
 }
 
+/// What is kept under a rule, and what is withdrawn. "Under rule 0 the withdrawn table is filled
+/// with zeros."
+pub fn kept(demand: &Matrix, slots: usize, rule: u32) -> (Matrix, Matrix) {
+    let n = demand.nodes();
+    let capacity = matrix::full_capacity(n, slots);
+    if rule == limits::FAIR {
+        return (fair::kept(demand, &capacity), Matrix::zero(n));
+    }
+    let withdrawn = least::withdrawn(demand, &capacity);
+    (least::kept_from(demand, &capacity, &withdrawn), withdrawn)
+}
+
 impl Plan {
-    /// "Under rule 0 the withdrawn table is filled with zeros."
     pub fn new(demand: &Matrix, slots: usize, rule: u32) -> Plan {
-        let n = demand.nodes();
-        let capacity = matrix::full_capacity(n, slots);
-        let (kept, withdrawn) = if rule == limits::FAIR {
-            (fair::kept(demand, &capacity), Matrix::zero(n))
-        } else {
-            let withdrawn = least::withdrawn(demand, &capacity);
-            (least::kept_from(demand, &capacity, &withdrawn), withdrawn)
-        };
+        let (kept, withdrawn) = kept(demand, slots, rule);
         Plan {
             schedule: schedule::place(&kept, slots),
             kept,

@@ -1,4 +1,4 @@
-//! Document 01, "What is refused".
+//! Document 01, "What is refused", and what document 02 adds.
 
 use crate::limits;
 use crate::run::{Books, Record};
@@ -7,6 +7,17 @@ use crate::run::{Books, Record};
 pub struct Refusal {
     pub number: u32,
     pub place: u32,
+}
+
+impl Refusal {
+    /// Document 02's 10: "place 0, for a table cut short or over 4,096 entries", otherwise "the
+    /// first entry, from 0", that has a fault.
+    pub fn bad_file(entry: usize) -> Refusal {
+        Refusal {
+            number: 10,
+            place: entry as u32,
+        }
+    }
 }
 
 /// "Checks run in the order 1, 2, 3, 7, 4, 5, 8, 9, 6, as far as they apply."
@@ -18,6 +29,9 @@ pub const PLAN: &[u32] = &[1, 2, 3, 4, 5, 6];
 pub const FRESH: &[u32] = &[1, 2, 3, 7, 5];
 pub const POST: &[u32] = &[1, 2, 3, 7, 4, 5, 8, 9, 6];
 pub const FRAME: &[u32] = &[1, 2, 3, 7, 5, 8, 9];
+
+/// Of a scenario file, between a 10 that is about its table and a 10 that is about an entry.
+pub const SCENARIO: &[u32] = &[1, 2, 3, 7];
 
 /// What an entry was called with, as far as the checks that apply to it look.
 #[derive(Default)]

@@ -8,7 +8,7 @@ use std::ptr;
 /// How many bytes of stack a call takes: from where it is made down to the deepest byte that it
 /// writes. What is needed to make it counts too: an empty call takes some bytes.
 ///
-/// The stack has 256 KiB. A call that takes more, or that panics, ends the program.
+/// The stack has 512 KiB. A call that takes more, or that panics, ends the program.
 ///
 /// ```
 /// let mut ones = 0;
@@ -26,9 +26,11 @@ pub fn taken(call: impl FnMut() + Send) -> usize {
     protect(guard, NONE);
     run_on(stack, &mut work);
     protect(guard, READ | WRITE);
-    let painted = stack.iter().flat_map(|page| &page.0);
-    let painted = painted.take_while(|&&byte| byte == PAINT).count();
-    work.began - (stack.as_ptr().addr() + painted)
+    let whole = stack.iter().take_while(|page| page.0 == [PAINT; PAGE]);
+    let whole = whole.count();
+    let rest = stack[whole..].iter().flat_map(|page| &page.0);
+    let rest = rest.take_while(|&&byte| byte == PAINT).count();
+    work.began - (stack.as_ptr().addr() + whole * PAGE + rest)
 }
 
 /// No call stores many of these in a row.
@@ -42,10 +44,11 @@ struct Page([u8; PAGE]);
 const PAGE: usize = 4_096;
 
 /// The pages of the stack.
-const STACK: usize = 64;
+const STACK: usize = 128;
 
-/// The pages below it that may not be touched during the call.
-const GUARD: usize = 16;
+/// The pages below it that may not be touched during the call. A function with larger tables of its
+/// own could step over them.
+const GUARD: usize = 64;
 
 /// One call, made on the painted stack.
 struct Work<F> {

@@ -4,7 +4,8 @@
 //! Matrices are row-major: pair (i,j), source i to destination j, is cell i×N+j. A longer table
 //! than needed is accepted; its extra cells are neither read nor changed. All tables are the
 //! caller's, and so is the record of a run. A call takes no other memory than its stack, of which
-//! 4 KiB are enough on x86-64 (`gyodaebeun.h` has what was measured).
+//! 4 KiB are enough on x86-64, but for [`play_scenario`], which takes a quarter of a megabyte
+//! (`gyodaebeun.h` has what was measured).
 //!
 //! One frame, planned under the least rule: of 12 slots asked, the frame carries 10.
 //!
@@ -44,6 +45,9 @@
 //! # Ok::<(), gyodaebeun::Refusal>(())
 //! ```
 //!
+//! A run can be kept as a file: [`write_scenario`] makes one, and [`play_scenario`] plays it, as the
+//! program `scenario` does.
+//!
 //! A refusal says why, and where.
 //!
 //! ```
@@ -53,15 +57,17 @@
 
 mod refusal;
 mod run;
+mod scenario;
 
 pub mod raw;
 
 pub use refusal::Refusal;
 pub use run::{Books, Run};
+pub use scenario::{FRAME, POST, TEXT_BYTES, play_scenario, write_scenario};
 
-// Where the library is called, here and in `run`, each pointer comes with the length of the slice
-// that it was taken from, and nothing that is lent overlaps: slices, record, place and report are
-// borrowed exclusively, but for one slice at most.
+// Where the library is called, here, in `run` and in `scenario`, each pointer comes with the length
+// of the slice that it was taken from, and nothing that is written overlaps anything: slices,
+// record, place and report are borrowed exclusively, but for slices that are only read.
 
 /// The slack of each line, L minus the line's sum, into the first 2N cells of `slacks`: the rows,
 /// then the columns. A line overflows where its slack is negative.

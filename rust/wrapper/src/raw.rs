@@ -78,4 +78,26 @@ unsafe extern "C" {
         schedule_length: usize,
         report: *mut [u32; 4],
     ) -> u32;
+
+    pub fn gyodaebeun_write_scenario(
+        nodes: u32,
+        slots: u32,
+        limit: u32,
+        rule: u32,
+        kinds: *const u32,
+        kinds_length: usize,
+        cells: *const u32,
+        cells_length: usize,
+        file: *mut u8,
+        file_length: usize,
+        report: *mut [u32; 2],
+    ) -> u32;
+
+    pub fn gyodaebeun_play_scenario(
+        file: *const u8,
+        file_length: usize,
+        text: *mut u8,
+        text_length: usize,
+        report: *mut [u32; 2],
+    ) -> u32;
 }

@@ -2,7 +2,7 @@ use std::error::Error;
 use std::fmt;
 
 /// Why a call was refused. Where several reasons hold, the first of the order 1, 2, 3, 7, 4, 5, 8,
-/// 9, 6 is given, by their numbers.
+/// 9, 6 is given, by their numbers; [`write_scenario`](crate::write_scenario) says where 10 stands.
 #[derive(Clone, Copy, Debug, PartialEq, Eq)]
 pub enum Refusal {
     /// 1: N is not 1 to 64.
@@ -11,7 +11,7 @@ pub enum Refusal {
     Slots,
     /// 3: the rule is neither 0 nor 1.
     Rule,
-    /// 4: demand or arrivals are shorter than N×N.
+    /// 4: demand or arrivals are shorter than N×N, or a scenario's than N×N for each post.
     DemandShort,
     /// 5: a table to be written, or one of a run's four, is too short.
     TableShort,
@@ -23,6 +23,9 @@ pub enum Refusal {
     BooksDisagree { cell: u32 },
     /// 9: this kind of call was accepted 1,000,000 times or more already.
     CallsSpent,
+    /// 10: a scenario has more than 4,096 entries, and then the entry is 0; or an entry is neither
+    /// a post nor a frame, and it is the first such entry.
+    BadFile { entry: u32 },
 }
 
 impl Refusal {
@@ -39,11 +42,12 @@ impl Refusal {
             7 => Refusal::QueueLimit,
             8 => Refusal::BooksDisagree { cell: place },
             9 => Refusal::CallsSpent,
+            10 => Refusal::BadFile { entry: place },
             _ => unreachable!("there is no refusal {number}"),
         })
     }
 
-    /// The number of the refusal, 1 to 9.
+    /// The number of the refusal, 1 to 10.
     pub fn number(self) -> u32 {
         match self {
             Refusal::Nodes => 1,
@@ -55,13 +59,15 @@ impl Refusal {
             Refusal::QueueLimit => 7,
             Refusal::BooksDisagree { .. } => 8,
             Refusal::CallsSpent => 9,
+            Refusal::BadFile { .. } => 10,
         }
     }
 
-    /// The cell the refusal is about, 0 where it is about none.
+    /// The cell or the entry the refusal is about, 0 where it is about none.
     pub fn place(self) -> u32 {
         match self {
             Refusal::DemandAbove { cell } | Refusal::BooksDisagree { cell } => cell,
+            Refusal::BadFile { entry } => entry,
             _ => 0,
         }
     }
@@ -81,6 +87,12 @@ impl fmt::Display for Refusal {
             Refusal::QueueLimit => f.write_str("the queue limit is not 1 to 65535"),
             Refusal::BooksDisagree { cell } => write!(f, "the books of cell {cell} disagree"),
             Refusal::CallsSpent => f.write_str("this call was accepted 1000000 times already"),
+            Refusal::BadFile { entry: 0 } => {
+                f.write_str("there are over 4096 entries, or entry 0 is neither a post nor a frame")
+            }
+            Refusal::BadFile { entry } => {
+                write!(f, "entry {entry} is neither a post nor a frame")
+            }
         }
     }
 }
@@ -94,8 +106,12 @@ mod tests {
     #[test]
     fn numbers_and_places_come_back() {
         assert_eq!(Refusal::given(0, 0), Ok(()));
-        for number in 1..=9 {
-            let place = if matches!(number, 6 | 8) { 4_095 } else { 0 };
+        for number in 1..=10 {
+            let place = if matches!(number, 6 | 8 | 10) {
+                4_095
+            } else {
+                0
+            };
             let refusal = Refusal::given(number, place).expect_err("refused");
             assert_eq!((refusal.number(), refusal.place()), (number, place));
             assert!(!refusal.to_string().is_empty());

@@ -1,4 +1,4 @@
-//! The second program against document 01.
+//! The second program against documents 01 and 02.
 
 mod notation;
 
@@ -6,6 +6,7 @@ mod chance;
 mod matrix_text;
 mod order;
 mod readings;
+mod scenario;
 mod schedules;
 mod tiny;
 mod worked;
