@@ -1,5 +1,6 @@
-// The entries for programs in C and Rust: numbers and slices in, document 01's number out, its place and what else is reported through a reference.
+// The entries for programs in C and Rust: numbers and slices in, the documents' number out, its place and what else is reported through a reference.
 use calls::record::Run;
+use files::filled::Filled;
 use planner::answers::Answer;
 use planner::answers::kept_total;
 use planner::answers::reconfigured;
@@ -9,7 +10,8 @@ ghost use mathlib.Core.Path.{_≡_};
 ghost use Rattle.slacks.specs.Slacks.{SlacksResult};
 ghost use Rattle.planner.specs.Plans.{PlanResult, verdictOf};
 ghost use Rattle.calls.specs.Runs.{Freshened, freshRun, Posted, postRun, Framed, frameRun};
-ghost use Rattle.export.specs.Reports.{Reported, ReportedPlan, reportOf};
+ghost use Rattle.scenario_text.specs.Outcomes.{PrintResult};
+ghost use Rattle.export.specs.Reports.{Reported, ReportedPlan, ReportedFill, reportOf, filledReport};
 
 // `slacks::slacks`; returns the number of the refusal, 0 where the call is accepted, and stores its place.
 #[no_mangle]
@@ -136,4 +138,28 @@ pub extern "C" fn gyodaebeun_frame(
     );
     *report = reported(a);
     star::refusals::number(verdict(a))
+}
+
+// The place and the number of bytes of an answer.
+fn filled(f: Filled) -> [u32; 2]
+    ensures { λ r. ⌜ r ≡ filledReport f ⌝ }
+{
+    [
+        star::refusals::place(files::filled::verdict(f)),
+        files::filled::length(f),
+    ]
+}
+
+// `scenario_text::answers::print`; returns the number of the refusal, 0 where the call is accepted, and stores its place and the text's length.
+#[no_mangle]
+pub extern "C" fn gyodaebeun_play_scenario(
+    file: &[u8],
+    text: &mut [u8],
+    report: &mut [u32; 2],
+) -> u32
+    ensures { λ r. ⌜ ReportedFill (PrintResult (now (file .entry)) (now (text .entry)) (now (text .exit))) r (now (report .exit)) ⌝ }
+{
+    let f = scenario_text::answers::print(file, text);
+    *report = filled(f);
+    star::refusals::number(files::filled::verdict(f))
 }

@@ -1,3 +1,4 @@
--- The laws of playing, and the theorems on played files.
+-- The laws of playing, the theorems on played files, and what events tell.
+pub mod Examples
 pub mod PlayLaws
 pub mod PlayTheorems

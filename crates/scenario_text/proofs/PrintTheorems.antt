@@ -1,10 +1,9 @@
 -- The theorems on printed texts: what is held after a file is the same pair by pair under the fair rule, and in what was posted under either; the lines
 -- say nothing else. Assumes nothing.
 use Prim.Native.Nat.{ℕ, _*_}
-use mathlib.Core.Path.{_≡_, refl, sym, _∙_, ap}
+use mathlib.Core.Path.{_≡_, refl, sym, _∙_}
 use lib.ListN.{length}
 use borrow.Author.Tests.{le-ltb}
-use Rattle.sums.specs.Tables.{written}
 use Rattle.star.proofs.AlikeLaws.{alike-at}
 use Rattle.star.proofs.RefusalLaws.{passes}
 use Rattle.pieces.proofs.PieceLaws.{join-ext, answered-same}

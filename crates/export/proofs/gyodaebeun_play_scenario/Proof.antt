@@ -1,0 +1,29 @@
+-- `gyodaebeun_play_scenario` meets its contract: the answer of `print` is reported. Assumes nothing.
+use mathlib.Core.Path.{ap, _∙_}
+use borrow.Author.Needs.{needs}
+use Rattle.star.specs.Refusals.{verdictNumber}
+use Rattle.export.proofs.gyodaebeun_play_scenario.Statement.{statement}
+use Rattle.export.proofs.gyodaebeun_play_scenario.Tie as tie
+
+print-requires : tie.Need-print-requires
+print-requires c κs = search needs
+
+filled-requires : tie.Need-filled-requires
+filled-requires c κs = search needs
+
+verdict-requires : tie.Need-verdict-requires
+verdict-requires c κs = search needs
+
+number-requires : tie.Need-number-requires
+number-requires c κs = search needs
+
+same-length : tie.Need-same-length
+same-length c = search needs
+
+returns : tie.Need-returns
+returns c = record { answer = c .before .before .before .before .before .print .result; kept = c .before .before .before .before .before .print .ensures; its-number = c .number .ensures ∙ ap verdictNumber (c .before .verdict .ensures); its-report = c .before .before .filled .ensures }
+
+pub gyodaebeun-play-scenario-spec : {M : Type 1} → statement M
+gyodaebeun-play-scenario-spec =
+    tie.close
+    (tie.spec print-requires filled-requires verdict-requires number-requires same-length returns)
