@@ -1,14 +1,14 @@
 -- How many posts there are, and how long each piece of the file is. Assumes nothing.
 use Prim.Native.Nat.{ℕ, _+_, _*_, _≤_}
-use native.Mathlib.Omega.{arith}
 use native.Mathlib.Nat.{mul-le-mul}
+use native.Mathlib.Omega.{arith}
 use mathlib.Core.Path.{_≡_, refl}
 use mathlib.Core.List.{List}
-use lib.ListN.{length, getD, length-append}
 use lib.Dec.{eqb}
+use lib.ListN.{length, getD, length-append}
 use Rattle.sums.specs.Sums.{sumTo, bit}
-use Rattle.sums.proofs.Sums.{sum-one, sum-more, sum-part}
 use Rattle.sums.proofs.Gates.{bit-most}
+use Rattle.sums.proofs.Sums.{sum-one, sum-more, sum-part}
 use Rattle.sums.proofs.Tables.{mul-small}
 use Rattle.pieces.specs.Pieces.{joinTo}
 use Rattle.pieces.proofs.PieceLaws.{join-length}

@@ -3,9 +3,9 @@
 use Prim.Native.Nat.{ℕ}
 use mathlib.Core.Path.{_≡_, refl}
 use mathlib.Core.List.{List, [], _∷_, map}
-use lib.ListN.{length, replicate}
-use Rattle.sums.specs.Sums.{sumTo}
+use lib.ListN.{replicate}
 use Rattle.sums.specs.Searches.{firstBelow, firstFrom}
+use Rattle.sums.specs.Sums.{sumTo}
 use Rattle.sums.specs.Tables.{tab, written}
 use Rattle.star.specs.declared.refusals.Refusal.the-variants.{DemandAbove}
 use Rattle.star.specs.declared.refusals.Verdict.the-variants.{Accepted, Refused}

@@ -2,8 +2,8 @@
 use Prim.Native.Nat.{ℕ, _+_, _*_, _/_, _%_, _≤_}
 use native.Mathlib.Omega.{arith}
 use mathlib.Core.Path.{_≡_, _∙_, ap, subst}
-use mathlib.Core.List.{List, [], _∷_, _++_}
-use lib.ListN.{length, getD, length-append}
+use mathlib.Core.List.{List, [], _∷_}
+use lib.ListN.{length, getD}
 use Rattle.pieces.specs.Pieces.{Appended, joinTo}
 use Rattle.pieces.proofs.PieceLaws.{appended-more, join-more}
 use Rattle.file_writer.specs.Bytes.{postsTo, twoBytes, fourBytes, sizesBytes, placeAfter, entryBytes, cellBytes}

@@ -1,8 +1,8 @@
 -- What is written reads back the same. Each number is read by its own bytes alone, and each piece of the file has its known length, so that every
 -- place of the format leads to the piece that was put there; the checks of reading then follow from those of writing. Assumes nothing.
 use Prim.Native.Nat.{ℕ, _+_, _*_, _≤_, _<_}
-use native.Mathlib.Omega.{arith}
 use native.Mathlib.Nat.{mul-le-mul-right}
+use native.Mathlib.Omega.{arith}
 use mathlib.Core.Path.{_≡_, refl, sym, _∙_, ap, ap₂}
 use mathlib.Core.Bool.{cond}
 use mathlib.Core.List.{List, _++_}
@@ -15,6 +15,7 @@ use Rattle.sums.specs.Sums.{bit}
 use Rattle.sums.specs.Tables.{tab}
 use Rattle.sums.proofs.Cases.{by-eq}
 use Rattle.sums.proofs.Tables.{tab-ext, written-first}
+use Rattle.star.specs.declared.refusals.Refusal.{Refusal}
 use Rattle.star.specs.declared.refusals.Verdict.{Verdict}
 use Rattle.star.specs.declared.refusals.Verdict.the-variants.{Accepted, Refused}
 use Rattle.pieces.specs.Pieces.{joinTo}
@@ -23,8 +24,8 @@ use Rattle.files.specs.Format.{two, four, nodesOf, slotsOf, limitOf, ruleOf, en
 use Rattle.files.proofs.ReadLaws.{Good, Sound, sound-accepted, table-read}
 use Rattle.file_writer.specs.declared.writing.Writing.the-variants as writing
 use Rattle.file_writer.specs.Bytes.{postsTo, cellsIn, twoBytes, fourBytes, sizesBytes, placeAfter, entryBytes, cellBytes, fileBytes, fileLength, entryFrom, scenarioFrom}
-use Rattle.file_writer.specs.Writing.{writeVerdict, writeAnswer, writeAfter, WriteResult}
 use Rattle.file_writer.specs.Theorems.{ReadsBack}
+use Rattle.file_writer.specs.Writing.{writeVerdict, writeAnswer, writeAfter, WriteResult}
 use Rattle.file_writer.proofs.ByteLaws.{length-sizes, length-entry, length-entries, length-cell, length-file, posts-more, posts-part}
 use Rattle.file_writer.proofs.WriteLaws.{CanWrite, can-write}
 
@@ -116,9 +117,9 @@ module _ (n l limit rule : ℕ) (kinds cells : List ℕ) where
       length-append (sizesBytes n l limit rule (length kinds)) (joinTo (length kinds) (entryBytes n kinds))
       ∙ omega (arith, length-sizes n l limit rule (length kinds), length-entries n kinds (length kinds))
 
-  in-sizes : (p : ℕ) → p + 4 ≤ 20 → four (fileBytes n l limit rule kinds cells) p ≡ four (sizesBytes n l limit rule (length kinds)) p
+  in-front : (p : ℕ) → p + 4 ≤ 20 → four (fileBytes n l limit rule kinds cells) p ≡ four (sizesBytes n l limit rule (length kinds)) p
   unfolding fileBytes
-  in-sizes p h =
+  in-front p h =
       four-front (sizesBytes n l limit rule (length kinds) ++ joinTo (length kinds) (entryBytes n kinds)) (joinTo (cellsIn n kinds) (cellBytes cells)) p (omega (arith, table-size))
       ∙ four-front (sizesBytes n l limit rule (length kinds)) (joinTo (length kinds) (entryBytes n kinds)) p (omega (arith, length-sizes n l limit rule (length kinds)))
 
@@ -136,19 +137,19 @@ module _ (n l limit rule : ℕ) (kinds cells : List ℕ) where
       ∙ cells-at cells (cellsIn n kinds) c h
 
   nodes-back : nodesOf (fileBytes n l limit rule kinds cells) ≡ n
-  nodes-back = in-sizes 0 (omega arith) ∙ sizes-nodes n l limit rule (length kinds)
+  nodes-back = in-front 0 (omega arith) ∙ sizes-nodes n l limit rule (length kinds)
 
   slots-back : slotsOf (fileBytes n l limit rule kinds cells) ≡ l
-  slots-back = in-sizes 4 (omega arith) ∙ sizes-slots n l limit rule (length kinds)
+  slots-back = in-front 4 (omega arith) ∙ sizes-slots n l limit rule (length kinds)
 
   limit-back : limitOf (fileBytes n l limit rule kinds cells) ≡ limit
-  limit-back = in-sizes 8 (omega arith) ∙ sizes-limit n l limit rule (length kinds)
+  limit-back = in-front 8 (omega arith) ∙ sizes-limit n l limit rule (length kinds)
 
   rule-back : ruleOf (fileBytes n l limit rule kinds cells) ≡ rule
-  rule-back = in-sizes 12 (omega arith) ∙ sizes-rule n l limit rule (length kinds)
+  rule-back = in-front 12 (omega arith) ∙ sizes-rule n l limit rule (length kinds)
 
   entries-back : entriesOf (fileBytes n l limit rule kinds cells) ≡ length kinds
-  entries-back = in-sizes 16 (omega arith) ∙ sizes-entries n l limit rule (length kinds)
+  entries-back = in-front 16 (omega arith) ∙ sizes-entries n l limit rule (length kinds)
 
   module _ (e : ℕ) (he : e < length kinds) where
     kind-back : kindOf (fileBytes n l limit rule kinds cells) e ≡ getD kinds e 0
@@ -229,7 +230,7 @@ module _ (n l limit rule : ℕ) (kinds cells : List ℕ) where
         }
 
 -- ---- what was written, cut to its length
-never-refused : {r : _} {size : ℕ} → writing.Refused r ≡ writing.Written size → ⊥
+never-refused : {r : Refusal} {size : ℕ} → writing.Refused r ≡ writing.Written size → ⊥
 never-refused e = let z : _≡_ {A = ℕ} 0 1 = cc in omega arith
 
 back : (n l limit rule : ℕ) (kinds cells out out' : List ℕ) (size : ℕ) (v : Verdict) → writeVerdict n l limit rule kinds cells (length out) ≡ v → writing.Written size ≡ writeAnswer v n kinds →

@@ -1,7 +1,7 @@
 -- The first cell above 65,535 in the table of all cells, one matrix after the other. Assumes nothing.
 use Prim.Native.Nat.{ℕ, _+_, _-_, _*_, _≤_, _<_}
-use native.Mathlib.Omega.{arith}
 use native.Mathlib.Nat.{mul-le-mul-right}
+use native.Mathlib.Omega.{arith}
 use mathlib.Core.Path.{_≡_, sym, _∙_, ap}
 use mathlib.Core.Bool.{true}
 use mathlib.Core.List.{List}
@@ -12,8 +12,8 @@ use lib.Seq.{take-length, getD-drop}
 use borrow.Author.Tests.{le-ltb, ltb-false}
 use Rattle.sums.proofs.Cases.{by-lt}
 use Rattle.sums.proofs.Searches.{first-at, first-none, first-before, first-here}
-use Rattle.star.specs.Tables.{Square}
 use Rattle.star.specs.Refusals.{firstAboveIn, firstAbove}
+use Rattle.star.specs.Tables.{Square}
 
 -- all cells from a place on
 rest : (at : ℕ) (cells : List ℕ) → take (length cells - at) (drop at cells) ≡ drop at cells
@@ -33,8 +33,8 @@ module _ (n posts : ℕ) (cells : List ℕ) (p : ℕ) (hp : p < posts) (there : 
     unfolding firstAbove
     first-in = found ∙ ap (firstAboveIn (n * n)) (rest (p * (n * n)) cells)
 
-    wide-to : (q : ℕ) → q < p * (n * n) + c → getD cells q 0 ≤ 65535
-    wide-to q h =
+    within-to : (q : ℕ) → q < p * (n * n) + c → getD cells q 0 ≤ 65535
+    within-to q h =
         by-lt q (p * (n * n))
         (λ lt. clear q lt)
         (λ le.
@@ -44,8 +44,8 @@ module _ (n posts : ℕ) (cells : List ℕ) (p : ℕ) (hp : p < posts) (there : 
         (first-before (λ q. ltb 65535 (getD (drop (p * (n * n)) cells) q 0)) (n * n) (q - p * (n * n)) (omega (arith, first-in)))))
 
     -- it has none either
-    pub wide-more : n * n ≤ c → (q : ℕ) → q < (p + 1) * (n * n) → getD cells q 0 ≤ 65535
-    wide-more none q h = wide-to q (omega arith)
+    pub within-more : n * n ≤ c → (q : ℕ) → q < (p + 1) * (n * n) → getD cells q 0 ≤ 65535
+    within-more none q h = within-to q (omega arith)
 
     -- it has one, at p×N×N + c in the table of all cells
     pub wide-found : c < n * n → p * (n * n) + c ≡ firstAboveIn (posts * (n * n)) cells
@@ -54,7 +54,7 @@ module _ (n posts : ℕ) (cells : List ℕ) (p : ℕ) (hp : p < posts) (there : 
         = ap (λ q. ltb 65535 (getD (drop (p * (n * n)) cells) q 0)) first-in
         ∙ first-here (λ q. ltb 65535 (getD (drop (p * (n * n)) cells) q 0)) (n * n) (omega (arith, first-in)) in
         sym (first-at _ (posts * (n * n)) (p * (n * n) + c) (digits-lt hp hc)
-        (λ q h. le-ltb 65535 (getD cells q 0) (wide-to q h))
+        (λ q h. le-ltb 65535 (getD cells q 0) (within-to q h))
         (rw (getD-drop (p * (n * n)) cells c 0) at here))
 
 -- no matrix has one

@@ -3,8 +3,8 @@ use Prim.Native.Nat.{ℕ, _+_, _*_, _≤_, _<_}
 use native.Mathlib.Omega.{arith}
 use mathlib.Core.Path.{_≡_, refl, sym, _∙_, ap, subst}
 use mathlib.Core.List.{List}
-use lib.ListN.{length, getD, length-append}
 use lib.Dec.{ltb}
+use lib.ListN.{length, getD, length-append}
 use borrow.Author.Tests.{ltb-false, lt-ltb, le-ltb}
 use Rattle.sums.specs.Tables.{written}
 use Rattle.sums.proofs.Searches.{first-before}
@@ -12,8 +12,8 @@ use Rattle.star.specs.declared.refusals.Refusal.{Refusal}
 use Rattle.star.specs.declared.refusals.Refusal.the-variants.{BadFile, DemandShort, TableShort, DemandAbove}
 use Rattle.star.specs.declared.refusals.Verdict.{Verdict}
 use Rattle.star.specs.declared.refusals.Verdict.the-variants.{Accepted, Refused}
-use Rattle.star.specs.Refusals.{noticeOf, firstAboveIn}
 use Rattle.star.specs.Checks.{rangesVerdict, Ranges}
+use Rattle.star.specs.Refusals.{noticeOf, firstAboveIn}
 use Rattle.star.proofs.RefusalLaws.{fires, passes, in-numbers, passed, ranges-fire, ranges-pass, in-ranges, each-within}
 use Rattle.pieces.specs.Pieces.{Appended, joinTo}
 use Rattle.pieces.proofs.PieceLaws.{appended-more, appended-front}

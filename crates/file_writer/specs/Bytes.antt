@@ -2,8 +2,8 @@
 use Prim.Native.Nat.{ℕ, _+_, _*_, _/_, _%_}
 use mathlib.Core.Bool.{cond}
 use mathlib.Core.List.{List, [], _∷_, _++_}
-use lib.ListN.{length, getD}
 use lib.Dec.{eqb}
+use lib.ListN.{length, getD}
 use Rattle.sums.specs.Sums.{sumTo, bit}
 use Rattle.sums.specs.Tables.{tab}
 use Rattle.pieces.specs.Pieces.{joinTo}

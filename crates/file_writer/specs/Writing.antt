@@ -2,15 +2,15 @@
 use Prim.Native.Nat.{ℕ}
 use mathlib.Core.Path.{_≡_}
 use mathlib.Core.List.{List}
-use lib.ListN.{length, getD}
 use lib.Dec.{ltb}
+use lib.ListN.{length, getD}
 use Rattle.sums.specs.Searches.{firstBelow}
 use Rattle.sums.specs.Tables.{written}
 use Rattle.star.specs.declared.refusals.Refusal.the-variants.{BadFile, DemandShort, TableShort, DemandAbove}
 use Rattle.star.specs.declared.refusals.Verdict.{Verdict}
 use Rattle.star.specs.declared.refusals.Verdict.the-variants as verdict
-use Rattle.star.specs.Refusals.{Notice, noticeOf, accepted, check, refuse, nodesOut, slotsOut, ruleOut, limitOut, short, someCell, firstAboveIn}
 use Rattle.star.specs.Checks.{rangesThen}
+use Rattle.star.specs.Refusals.{Notice, noticeOf, accepted, check, refuse, nodesOut, slotsOut, ruleOut, limitOut, short, someCell, firstAboveIn}
 use Rattle.file_writer.specs.declared.writing.Writing.{Writing}
 use Rattle.file_writer.specs.declared.writing.Writing.the-variants.{Written, Refused}
 use Rattle.file_writer.specs.Bytes.{cellsIn, fileBytes, fileLength}

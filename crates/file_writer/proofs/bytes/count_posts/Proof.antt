@@ -3,7 +3,6 @@ use Prim.Native.Nat.{_≤_, _-_, _+_}
 use native.Mathlib.Omega.{arith}
 use mathlib.Core.Path.{_≡_, sym, _∙_, ap}
 use lib.ListN.{length}
-use borrow.Author.Needs.{needs}
 use Rattle.file_writer.specs.Bytes.{postsTo}
 use Rattle.file_writer.proofs.ByteLaws.{posts-none, posts-more, posts-few}
 use Rattle.file_writer.proofs.bytes.count_posts.Statement.{statement}
@@ -25,7 +24,7 @@ shared-slice-read-is-post : tie.Need-shared-slice-read-is-post Inv-loop μ-loop
 shared-slice-read-is-post c = omega arith
 
 is-post-requires : tie.Need-is-post-requires Inv-loop μ-loop
-is-post-requires c κs = search needs
+is-post-requires c κs = tt
 
 add-posts : tie.Need-add-posts Inv-loop μ-loop
 add-posts c = let kinds = c .before .before .before .before .before .args .kinds .now in

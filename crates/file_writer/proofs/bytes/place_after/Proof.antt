@@ -1,10 +1,10 @@
 -- `place_after` meets its contract; 4,096 posts of 64 nodes have few cells, so that nothing wraps. Assumes nothing.
 use Prim.Native.Nat.{_+_, _*_}
 use native.Mathlib.Omega.{arith}
-use mathlib.Core.Bool.{cond}
 use mathlib.Core.Path.{sym, ap}
-use borrow.Author.Tests.{eq-eqb, ne-eqb}
+use mathlib.Core.Bool.{cond}
 use borrow.Author.Needs.{needs}
+use borrow.Author.Tests.{eq-eqb, ne-eqb}
 use Rattle.sums.proofs.Tables.{mul-small}
 use Rattle.file_writer.proofs.ByteLaws.{cells-few}
 use Rattle.file_writer.proofs.bytes.place_after.Statement.{statement}

@@ -3,12 +3,11 @@ use Prim.Native.Nat.{_+_, _-_, _*_, _≤_}
 use native.Mathlib.Omega.{arith}
 use mathlib.Core.Path.{_≡_, refl, sym, _∙_}
 use lib.ListN.{length}
-use borrow.Author.Needs.{needs}
 use Rattle.pieces.specs.Pieces.{Appended, joinTo}
 use Rattle.pieces.proofs.PieceLaws.{appended-none, join-none}
 use Rattle.file_writer.specs.Bytes.{postsTo, entryBytes}
-use Rattle.file_writer.proofs.PutLaws.{after-four, put-entry}
 use Rattle.file_writer.proofs.ByteLaws.{posts-none, posts-more, posts-few}
+use Rattle.file_writer.proofs.PutLaws.{after-four, put-entry}
 use Rattle.file_writer.proofs.bytes.put_entries.Statement.{statement}
 use Rattle.file_writer.proofs.bytes.put_entries.Tie as tie
 
@@ -37,7 +36,7 @@ put-four-requires-2 : tie.Need-put-four-requires-2 Inv-loop μ-loop
 put-four-requires-2 c κs = omega (arith, c .before .before .before .before .before .before .before .before .before .before .before .pre, c .before .before .before .before .before .before .before .before .loop .inv, c .before .before .before .before .put-four .kept, after-four _ (c .before .before .before .before .put-four .ensures))
 
 is-post-requires : tie.Need-is-post-requires Inv-loop μ-loop
-is-post-requires c κs = search needs
+is-post-requires c κs = tt
 
 add-posts : tie.Need-add-posts Inv-loop μ-loop
 add-posts c = omega (arith, c .before .before .before .before .before .before .before .before .before .before .before .before .before .before .before .pre, c .before .before .before .before .before .before .before .before .before .before .before .before .loop .inv, c .is-post .ensures, posts-more (c .before .before .before .before .before .before .before .before .before .before .before .before .before .before .before .args .kinds .now) (c .before .before .before .before .before .before .before .before .before .before .before .before .loop .e), posts-few (c .before .before .before .before .before .before .before .before .before .before .before .before .before .before .before .args .kinds .now) (c .before .before .before .before .before .before .before .before .before .before .before .before .loop .e + 1))

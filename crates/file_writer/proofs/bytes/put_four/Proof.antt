@@ -2,8 +2,8 @@
 use Prim.Native.Nat.{_%_}
 use native.Mathlib.Omega.{arith}
 use borrow.Author.Needs.{needs}
-use Rattle.file_writer.proofs.PutLaws.{put-four}
 use Rattle.file_writer.proofs.ByteLaws.{length-two}
+use Rattle.file_writer.proofs.PutLaws.{put-four}
 use Rattle.file_writer.proofs.bytes.put_four.Statement.{statement}
 use Rattle.file_writer.proofs.bytes.put_four.Tie as tie
 

@@ -1,17 +1,18 @@
 -- `put_two` appends two bytes, the low one first. Assumes nothing.
+use native.Mathlib.Omega.{arith}
 use borrow.Author.Needs.{needs}
 use Rattle.file_writer.proofs.PutLaws.{put-two}
 use Rattle.file_writer.proofs.bytes.put_two.Statement.{statement}
 use Rattle.file_writer.proofs.bytes.put_two.Tie as tie
 
 cast-put-byte : tie.Need-cast-put-byte
-cast-put-byte c = search needs
+cast-put-byte c = omega arith
 
 put-byte-requires : tie.Need-put-byte-requires
 put-byte-requires c κs = search needs
 
 cast-put-byte-2 : tie.Need-cast-put-byte-2
-cast-put-byte-2 c = search needs
+cast-put-byte-2 c = omega arith
 
 put-byte-requires-2 : tie.Need-put-byte-requires-2
 put-byte-requires-2 c κs = search needs

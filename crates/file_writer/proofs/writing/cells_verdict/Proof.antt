@@ -1,7 +1,6 @@
 -- `cells_verdict` meets its contract: the checks in their order; 4,096 posts of 64 nodes have few cells, so that nothing wraps. Assumes nothing.
 use native.Mathlib.Omega.{arith}
 use lib.ListN.{length}
-use borrow.Author.Needs.{needs}
 use Rattle.sums.proofs.Tables.{mul-small}
 use Rattle.file_writer.proofs.ByteLaws.{posts-few, cells-few}
 use Rattle.file_writer.proofs.WriteLaws.{missing-cells, few-bytes, wide-cell, no-wide-cell}
@@ -9,7 +8,7 @@ use Rattle.file_writer.proofs.writing.cells_verdict.Statement.{statemen
 use Rattle.file_writer.proofs.writing.cells_verdict.Tie as tie
 
 count-posts-requires : tie.Need-count-posts-requires
-count-posts-requires c κs = search needs
+count-posts-requires c κs = tt
 
 mul-count : tie.Need-mul-count
 mul-count c = omega (arith, mul-small (c .before .before .before .args .n) (c .before .before .before .args .n) (c .before .before .before .pre .0) (c .before .before .before .pre .0))
@@ -21,22 +20,22 @@ returns : tie.Need-returns
 returns c = missing-cells _ _ _ _ (c .before .count-posts .ensures) (c .if1 .taken)
 
 mul-if2 : tie.Need-mul-if2
-mul-if2 c = search needs
+mul-if2 c = omega arith
 
 add-if2 : tie.Need-add-if2
-add-if2 c = search needs
+add-if2 c = omega arith
 
 mul-if2-2 : tie.Need-mul-if2-2
-mul-if2-2 c = search needs
+mul-if2-2 c = omega arith
 
 add-if2-2 : tie.Need-add-if2-2
-add-if2-2 c = search needs
+add-if2-2 c = omega arith
 
 returns-2 : tie.Need-returns-2
 returns-2 c = few-bytes _ _ _ _ (c .before .before .count-posts .ensures) (c .before .if1 .left) (c .if2 .taken)
 
 first-wide-requires : tie.Need-first-wide-requires
-first-wide-requires c κs = search needs
+first-wide-requires c κs = (c .before .before .before .before .before .pre .0, c .before .if1 .left)
 
 cast-t16 : tie.Need-cast-t16
 cast-t16 c = omega (arith, c .if3 .taken, cells-few (c .before .before .before .before .before .before .before .args .n) (c .before .before .before .before .count-posts .result) (c .before .before .before .before .before .before .before .pre .0) (omega (arith, c .before .before .before .before .count-posts .ensures, c .before .before .before .before .before .before .before .pre .1, posts-few (c .before .before .before .before .before .before .before .args .kinds .now) (length (c .before .before .before .before .before .before .before .args .kinds .now)))))

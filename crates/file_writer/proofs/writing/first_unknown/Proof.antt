@@ -3,8 +3,8 @@ use Prim.Native.Nat.{ℕ, _≤_, _<_, _-_}
 use native.Mathlib.Omega.{arith}
 use mathlib.Core.Path.{_≡_, sym, _∙_}
 use lib.ListN.{length, getD}
-use borrow.Author.Tests.{lt-ltb, le-ltb}
 use borrow.Author.Count.{below-more}
+use borrow.Author.Tests.{lt-ltb, le-ltb}
 use Rattle.sums.proofs.Searches.{first-at, first-none}
 use Rattle.file_writer.specs.Writing.{firstUnknown}
 use Rattle.file_writer.proofs.writing.first_unknown.Statement.{statement}

@@ -4,7 +4,7 @@ use native.Mathlib.Omega.{arith}
 use mathlib.Core.Path.{_≡_, ap}
 use lib.ListN.{getD}
 use Rattle.sums.proofs.Tables.{mul-small}
-use Rattle.file_writer.proofs.WideLaws.{matrix-there, matrix-square, wide-more, wide-found, wide-none}
+use Rattle.file_writer.proofs.WideLaws.{matrix-there, matrix-square, within-more, wide-found, wide-none}
 use Rattle.file_writer.proofs.writing.first_wide.Statement.{statement}
 use Rattle.file_writer.proofs.writing.first_wide.Tie as tie
 
@@ -54,7 +54,7 @@ loop-less : tie.Need-loop-less Inv-loop μ-loop
 loop-less c = omega arith
 
 loop-again : tie.Need-loop-again Inv-loop μ-loop
-loop-again c = (omega arith, wide-more _ _ (c .before .before .before .before .before .before .args .cells .now) _ (c .before .before .before .loop-test .taken) (c .before .before .before .before .before .before .pre .1) (c .before .before .before .before .loop .inv .1) (c .before .first-above .ensures) (c .if1 .left))
+loop-again c = (omega arith, within-more _ _ (c .before .before .before .before .before .before .args .cells .now) _ (c .before .before .before .loop-test .taken) (c .before .before .before .before .before .before .pre .1) (c .before .before .before .before .loop .inv .1) (c .before .first-above .ensures) (c .if1 .left))
 
 mul-result : tie.Need-mul-result Inv-loop μ-loop
 mul-result c = omega (arith, mul-small (c .before .before .before .args .n) (c .before .before .before .args .n) (c .before .before .before .pre .0) (c .before .before .before .pre .0))
