@@ -47,6 +47,20 @@ module _ (test : ℕ → Bool) where
   unfolding firstBelow
   first-before m q h = from-before m 0 q zero-le h
 
+  from-here : (left k : ℕ) → firstFrom left k test < k + left → test (firstFrom left k test) ≡ true
+  unfolding firstFrom
+  from-here zero k high = absurd (omega arith)
+  from-here (suc left) k high = go (test k) refl high (from-here left (suc k))
+    where
+      go : (b : Bool) → test k ≡ b → elim b [ true ↦ k | false ↦ firstFrom left (suc k) test ] < k + suc left → (firstFrom left (suc k) test < suc k + left → test (firstFrom left (suc k) test) ≡ true) → test (elim b [ true ↦ k | false ↦ firstFrom left (suc k) test ]) ≡ true
+      go true e h rest = e
+      go false e h rest = rest (omega arith)
+
+  -- at the number found it holds
+  pub first-here : (m : ℕ) → firstBelow m test < m → test (firstBelow m test) ≡ true
+  unfolding firstBelow
+  first-here m h = from-here m 0 (omega arith)
+
   -- no number below m has what the test asks
   pub some-none : (m : ℕ) → ((q : ℕ) → q < m → test q ≡ false) → someBelow m test ≡ false
   unfolding someBelow
