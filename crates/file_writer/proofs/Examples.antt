@@ -11,10 +11,10 @@ use Rattle.star.specs.declared.refusals.Refusal.the-variants.{DemandAbove}
 use Rattle.star.specs.declared.refusals.Verdict.the-variants.{Accepted, Refused}
 use Rattle.star.specs.Refusals.{Notice, notice, noticeOf, refuse}
 use Rattle.pieces.specs.Pieces.{joinTo}
-use Rattle.files.specs.Format.{two, four, kindOf, placeOf, matrixAt, post, frame, Scenario, entryOf, scenarioOf}
-use Rattle.file_writer.specs.declared.writing.Writing.the-variants as writing
+use Rattle.files.specs.declared.filled.Filled.the-variants as filled
+use Rattle.files.specs.Format.{two, four, post, frame, Scenario}
 use Rattle.file_writer.specs.Bytes.{postsTo, entryFrom, scenarioFrom, twoBytes, fourBytes, sizesBytes, entryBytes, cellBytes, fileBytes, fileLength}
-use Rattle.file_writer.specs.Writing.{firstUnknown, cellsVerdict, writeVerdict, writtenLength, writeAnswer, writeAfter}
+use Rattle.file_writer.specs.Writing.{firstUnknown, cellsVerdict, writeVerdict, writeAnswer, writeAfter}
 
 -- ---- Low bytes come first.
 two-bytes : map twoBytes (0 ∷ 255 ∷ 256 ∷ 65535 ∷ []) ≡ (0 ∷ 0 ∷ []) ∷ (255 ∷ 0 ∷ []) ∷ (0 ∷ 1 ∷ []) ∷ (255 ∷ 255 ∷ []) ∷ []
@@ -50,13 +50,8 @@ case-n-tables : scenarioFrom 1 4 6 1 (0 ∷ 1 ∷ 0 ∷ 1 ∷ []) (10 ∷ 3 ∷ 
 unfolding scenarioFrom entryFrom postsTo tab sumTo
 case-n-tables = refl
 
--- what reading makes of it
-case-n-read : scenarioOf caseN ≡ scenarioN
-unfolding scenarioOf entryOf matrixAt kindOf placeOf four two tab
-case-n-read = refl
-
 -- the length is answered; the bytes behind the file are as before, and a refusal writes nothing
-case-n-answer : writeAnswer Accepted 1 (0 ∷ 1 ∷ 0 ∷ 1 ∷ []) ≡ writing.Written 56
+case-n-answer : writeAnswer Accepted 1 (0 ∷ 1 ∷ 0 ∷ 1 ∷ []) ≡ filled.Bytes 56
 unfolding writeAnswer postsTo sumTo
 case-n-answer = refl
 
@@ -67,9 +62,6 @@ no-entries-after = refl
 refused-after : writeAfter (Refused (DemandAbove 1)) 1 4 6 1 [] [] (replicate 22 9) ≡ replicate 22 9
 unfolding writeAfter
 refused-after = refl
-
-lengths : map writtenLength (writing.Written 56 ∷ writing.Refused (DemandAbove 1) ∷ []) ≡ 56 ∷ 0 ∷ []
-lengths = refl
 
 -- ---- two nodes, a post, a frame, a post: the first matrix stands after the table, at 44, the second 8 bytes on; 0 for the frame
 two-posts : map (entryBytes 2 (0 ∷ 1 ∷ 0 ∷ [])) (0 ∷ 1 ∷ 2 ∷ []) ≡ (0 ∷ 0 ∷ 0 ∷ 0 ∷ 44 ∷ 0 ∷ 0 ∷ 0 ∷ []) ∷ (1 ∷ 0 ∷ 0 ∷ 0 ∷ 0 ∷ 0 ∷ 0 ∷ 0 ∷ []) ∷ (0 ∷ 0 ∷ 0 ∷ 0 ∷ 52 ∷ 0 ∷ 0 ∷ 0 ∷ []) ∷ []

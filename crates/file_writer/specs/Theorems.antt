@@ -7,8 +7,8 @@ use Rattle.star.specs.declared.refusals.Verdict.the-variants.{Accepted}
 use Rattle.files.specs.declared.reading.Reading.the-variants.{Table}
 use Rattle.files.specs.Format.{two, kindOf, placeOf, scenarioOf}
 use Rattle.files.specs.Reading.{readVerdict, readAnswer}
-use Rattle.file_writer.specs.declared.writing.Writing.{Writing}
-use Rattle.file_writer.specs.declared.writing.Writing.the-variants.{Written}
+use Rattle.files.specs.declared.filled.Filled.{Filled}
+use Rattle.files.specs.declared.filled.Filled.the-variants.{Bytes}
 use Rattle.file_writer.specs.Bytes.{postsTo, scenarioFrom}
 use Rattle.file_writer.specs.Writing.{WriteResult}
 
@@ -22,8 +22,8 @@ pub record ReadsBack (n l limit rule : ℕ) (kinds cells file : List ℕ) : Type
 
 pub record WriteTheorems : Type 0 where
   -- what is written, cut to its length, reads back the same
-  pub back : (n l limit rule : ℕ) (kinds cells out out' : List ℕ) (size : ℕ) → WriteResult n l limit rule kinds cells out out' (Written size) →
+  pub back : (n l limit rule : ℕ) (kinds cells out out' : List ℕ) (size : ℕ) → WriteResult n l limit rule kinds cells out out' (Bytes size) →
       ReadsBack n l limit rule kinds cells (take size out')
   -- two results on the same input are one
-  pub unique : (n l limit rule : ℕ) (kinds cells out out₁ out₂ : List ℕ) (r₁ r₂ : Writing) → WriteResult n l limit rule kinds cells out out₁ r₁ →
+  pub unique : (n l limit rule : ℕ) (kinds cells out out₁ out₂ : List ℕ) (r₁ r₂ : Filled) → WriteResult n l limit rule kinds cells out out₁ r₁ →
       WriteResult n l limit rule kinds cells out out₂ r₂ → (r₁ ≡ r₂) × (out₁ ≡ out₂)

@@ -11,8 +11,9 @@ use Rattle.star.specs.declared.refusals.Verdict.{Verdict}
 use Rattle.star.specs.declared.refusals.Verdict.the-variants as verdict
 use Rattle.star.specs.Checks.{rangesThen}
 use Rattle.star.specs.Refusals.{Notice, noticeOf, accepted, check, refuse, nodesOut, slotsOut, ruleOut, limitOut, short, someCell, firstAboveIn}
-use Rattle.file_writer.specs.declared.writing.Writing.{Writing}
-use Rattle.file_writer.specs.declared.writing.Writing.the-variants.{Written, Refused}
+use Rattle.files.specs.declared.filled.Filled.{Filled}
+use Rattle.files.specs.declared.filled.Filled.the-variants.{Bytes, Refused}
+use Rattle.files.specs.Filled.{filledVerdict}
 use Rattle.file_writer.specs.Bytes.{cellsIn, fileBytes, fileLength}
 
 -- the first entry, from 0, with an unknown kind, neither 0 nor 1; or the number of entries
@@ -50,19 +51,9 @@ writeNotice n l limit rule kinds cells room =
     (check (someCell (cellsIn n kinds) (firstAboveIn (cellsIn n kinds) cells)) 6 (firstAboveIn (cellsIn n kinds) cells)
     accepted))))))))
 
--- the verdict of a writing
-abbrev pub writingVerdict : Writing → Verdict
-writingVerdict (Written length) = verdict.Accepted
-writingVerdict (Refused r) = verdict.Refused r
-
--- how many bytes were written; a refusal writes none
-abbrev pub writtenLength : Writing → ℕ
-writtenLength (Written length) = length
-writtenLength (Refused r) = 0
-
 -- what is answered, given the verdict: the file's length, or the refusal
-unfoldable pub writeAnswer : (v : Verdict) (n : ℕ) (kinds : List ℕ) → Writing
-writeAnswer verdict.Accepted n kinds = Written (fileLength n kinds)
+unfoldable pub writeAnswer : (v : Verdict) (n : ℕ) (kinds : List ℕ) → Filled
+writeAnswer verdict.Accepted n kinds = Bytes (fileLength n kinds)
 writeAnswer (verdict.Refused r) n kinds = Refused r
 
 -- The file stands at the front of the bytes, and those behind it are as before; a refusal writes nothing.
@@ -71,7 +62,7 @@ writeAfter verdict.Accepted n l limit rule kinds cells out = written (fileLength
 writeAfter (verdict.Refused r) n l limit rule kinds cells out = out
 
 -- what `write` promises for every input
-pub record WriteResult (n l limit rule : ℕ) (kinds cells out out' : List ℕ) (r : Writing) : Type 0 where
+pub record WriteResult (n l limit rule : ℕ) (kinds cells out out' : List ℕ) (r : Filled) : Type 0 where
   pub answer : r ≡ writeAnswer (writeVerdict n l limit rule kinds cells (length out)) n kinds
-  pub notice : noticeOf (writingVerdict r) ≡ writeNotice n l limit rule kinds cells (length out)
+  pub notice : noticeOf (filledVerdict r) ≡ writeNotice n l limit rule kinds cells (length out)
   pub after : out' ≡ writeAfter (writeVerdict n l limit rule kinds cells (length out)) n l limit rule kinds cells out

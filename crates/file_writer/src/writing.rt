@@ -3,6 +3,7 @@ use crate::bytes::count_posts;
 use crate::bytes::put_cells;
 use crate::bytes::put_entries;
 use crate::bytes::put_sizes;
+use files::filled::Filled;
 use star::checks::ranges;
 use star::lines::first_above;
 use star::refusals::Refusal;
@@ -12,12 +13,6 @@ ghost use Prim.Native.Nat.{_*_, _≤_};
 ghost use lib.ListN.{length};
 ghost use Rattle.star.specs.Refusals.{firstAboveIn};
 ghost use Rattle.file_writer.specs.Writing.{firstUnknown, cellsVerdict, writeVerdict, WriteResult};
-
-// The file's length, or the refusal.
-pub enum Writing {
-    Written { length: u32 },
-    Refused { refusal: Refusal },
-}
 
 // The first entry of an unknown kind, or the number of entries.
 fn first_unknown(kinds: &[u32]) -> usize
@@ -120,17 +115,17 @@ pub fn write(
     kinds: &[u32],
     cells: &[u32],
     out: &mut [u8],
-) -> Writing
+) -> Filled
     ensures { λ r. ⌜ WriteResult nodes slots limit rule (now (kinds .entry)) (now (cells .entry)) (now (out .entry)) (now (out .exit)) r ⌝ }
 {
     let v = write_verdict(nodes, slots, limit, rule, kinds, cells, out.len());
     if let Verdict::Refused { refusal } = v {
-        return Writing::Refused { refusal: refusal };
+        return Filled::Refused { refusal: refusal };
     }
     let n = nodes as usize;
     let after_sizes = put_sizes(out, nodes, slots, limit, rule, kinds.len() as u32);
     let after_entries = put_entries(out, after_sizes, n, kinds);
     let count = count_posts(kinds) * (n * n);
     let end = put_cells(out, after_entries, cells, count);
-    Writing::Written { length: end as u32 }
+    Filled::Bytes { length: end as u32 }
 }
