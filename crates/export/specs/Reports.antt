@@ -6,8 +6,8 @@ use Rattle.star.specs.declared.refusals.Verdict.{Verdict}
 use Rattle.star.specs.Refusals.{verdictNumber, verdictPlace}
 use Rattle.planner.specs.declared.answers.Answer.{Answer}
 use Rattle.planner.specs.Plans.{verdictOf, keptTotal, refusedTotal, changes}
-use Rattle.files.specs.declared.filled.Filled.{Filled}
-use Rattle.files.specs.Filled.{filledVerdict, filledLength}
+use Rattle.files.specs.declared.output.Output.{Output}
+use Rattle.files.specs.Output.{outputVerdict, outputLength}
 
 -- the number and the place are those of a verdict with which the entry keeps its promise
 pub record Reported (promise : Verdict → Type 0) (number place : ℕ) : Type 0 where
@@ -21,8 +21,8 @@ abbrev pub reportOf : Answer → List ℕ
 reportOf answer = verdictPlace (verdictOf answer) ∷ keptTotal answer ∷ refusedTotal answer ∷ changes answer ∷ []
 
 -- what a call reports beside its number that writes bytes: the place, and how many it wrote
-abbrev pub filledReport : Filled → List ℕ
-filledReport answer = verdictPlace (filledVerdict answer) ∷ filledLength answer ∷ []
+abbrev pub outputReport : Output → List ℕ
+outputReport answer = verdictPlace (outputVerdict answer) ∷ outputLength answer ∷ []
 
 -- the number and the report are those of an answer with which the entry keeps its promise
 pub record ReportedBy {A : Type 0} (verdictFrom : A → Verdict) (reportFrom : A → List ℕ) (promise : A → Type 0) (number : ℕ) (report : List ℕ) : Type 0 where
@@ -34,5 +34,5 @@ pub record ReportedBy {A : Type 0} (verdictFrom : A → Verdict) (reportFrom : A
 abbrev pub ReportedPlan : (promise : Answer → Type 0) (number : ℕ) (report : List ℕ) → Type 0
 ReportedPlan promise number report = ReportedBy verdictOf reportOf promise number report
 
-abbrev pub ReportedFill : (promise : Filled → Type 0) (number : ℕ) (report : List ℕ) → Type 0
-ReportedFill promise number report = ReportedBy filledVerdict filledReport promise number report
+abbrev pub ReportedOutput : (promise : Output → Type 0) (number : ℕ) (report : List ℕ) → Type 0
+ReportedOutput promise number report = ReportedBy outputVerdict outputReport promise number report

@@ -1,6 +1,6 @@
 -- What follows from the promises of the entries for C and Rust, as statements; their proofs are in proofs/ExportTheorems.antt. Each number returned and
--- each place is that of document 01's chain of checks; two results on the same input agree as those of the entries do; and a call of a run is one of
--- those of which its histories are made.
+-- each place is that of the documents' chain of checks; two results on the same input agree as those of the entries do; and a call of a run is one of
+-- those of which its histories are made; and what a call wrote as a scenario file reads back the same.
 use Prim.Native.Nat.{ℕ}
 use mathlib.Core.Path.{_≡_}
 use mathlib.Core.List.{List}
@@ -16,7 +16,11 @@ use Rattle.calls.specs.declared.record.Run.{Run}
 use Rattle.calls.specs.Runs.{freshNotice, Freshened, freshRun, postNotice, Posted, postRun, frameNotice, Framed, frameRun}
 use Rattle.run.specs.Held.{held, FreshCall, PostCall, FrameCall}
 use Rattle.run.specs.Theorems.{FramesAgree}
-use Rattle.export.specs.Reports.{Reported, ReportedPlan}
+use Rattle.files.specs.Format.{ruleOf}
+use Rattle.file_writer.specs.Theorems.{ReadsBack}
+use Rattle.file_writer.specs.Writing.{writeNotice, WriteResult}
+use Rattle.scenario_text.specs.Outcomes.{printNotice, PrintResult}
+use Rattle.export.specs.Reports.{Reported, ReportedPlan, ReportedOutput}
 
 pub record SlacksExported (n l : ℕ) (d : List ℕ) (table : List ℤ) : Type 0 where
   pub numbers : (table' : List ℤ) (r p : ℕ) → Reported (SlacksResult n l d table table') r p → notice r p ≡ slacksNotice n l d (length table)
@@ -67,9 +71,26 @@ pub record FrameExported (old : Run) (w p s d k a q : List ℕ) : Type 0 where
   pub called : (run : Run) (w' s' k' a' q' : List ℕ) (r : ℕ) (report : List ℕ) → (x : ReportedPlan (FrameExports old w p s d k a q run w' s' k' a' q') r report) →
       FrameCall k a q k' a' q' (held old w p s d) (held run w' p s' d) (x .answer)
 
+-- The report begins with the place; its next number is the length. What is written, cut to that length, reads back the same.
+pub record WriteExported (n l limit rule : ℕ) (kinds cells out : List ℕ) : Type 0 where
+  pub numbers : (out' : List ℕ) (r : ℕ) (report : List ℕ) → ReportedOutput (WriteResult n l limit rule kinds cells out out') r report →
+      notice r (getD report 0 0) ≡ writeNotice n l limit rule kinds cells (length out)
+  pub unique : (out₁ out₂ : List ℕ) (r₁ r₂ : ℕ) (report₁ report₂ : List ℕ) → ReportedOutput (WriteResult n l limit rule kinds cells out out₁) r₁ report₁ →
+      ReportedOutput (WriteResult n l limit rule kinds cells out out₂) r₂ report₂ → (r₁ ≡ r₂) × (report₁ ≡ report₂) × (out₁ ≡ out₂)
+  pub back : (out' : List ℕ) (r : ℕ) (report : List ℕ) → ReportedOutput (WriteResult n l limit rule kinds cells out out') r report → r ≡ 0 →
+      ReadsBack n l limit rule kinds cells (take (getD report 1 0) out')
+
+-- Under rule 0 two results on the same file and text agree in everything; under rule 1 as far as two printed texts do (`PrintsAgree`).
+pub record PlayExported (file text : List ℕ) : Type 0 where
+  pub numbers : (text' : List ℕ) (r : ℕ) (report : List ℕ) → ReportedOutput (PrintResult file text text') r report → notice r (getD report 0 0) ≡ printNotice (length text)
+  pub unique : (text₁ text₂ : List ℕ) (r₁ r₂ : ℕ) (report₁ report₂ : List ℕ) → ReportedOutput (PrintResult file text text₁) r₁ report₁ →
+      ReportedOutput (PrintResult file text text₂) r₂ report₂ → ruleOf file ≡ 0 → (r₁ ≡ r₂) × (report₁ ≡ report₂) × (text₁ ≡ text₂)
+
 pub record ExportTheorems : Type 0 where
   pub slacks : (n l : ℕ) (d : List ℕ) (table : List ℤ) → SlacksExported n l d table
   pub plan : (n l rule : ℕ) (d k a s : List ℕ) → PlanExported n l rule d k a s
   pub fresh : (old : Run) (n l limit rule : ℕ) (w p s d : List ℕ) → FreshExported old n l limit rule w p s d
   pub post : (old : Run) (arrivals w p s d : List ℕ) → PostExported old arrivals w p s d
   pub frame : (old : Run) (w p s d k a q : List ℕ) → FrameExported old w p s d k a q
+  pub write : (n l limit rule : ℕ) (kinds cells out : List ℕ) → WriteExported n l limit rule kinds cells out
+  pub play : (file text : List ℕ) → PlayExported file text

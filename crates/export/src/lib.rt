@@ -1,6 +1,6 @@
 // The entries for programs in C and Rust: numbers and slices in, the documents' number out, its place and what else is reported through a reference.
 use calls::record::Run;
-use files::filled::Filled;
+use files::output::Output;
 use planner::answers::Answer;
 use planner::answers::kept_total;
 use planner::answers::reconfigured;
@@ -10,8 +10,9 @@ ghost use mathlib.Core.Path.{_≡_};
 ghost use Rattle.slacks.specs.Slacks.{SlacksResult};
 ghost use Rattle.planner.specs.Plans.{PlanResult, verdictOf};
 ghost use Rattle.calls.specs.Runs.{Freshened, freshRun, Posted, postRun, Framed, frameRun};
+ghost use Rattle.file_writer.specs.Writing.{WriteResult};
 ghost use Rattle.scenario_text.specs.Outcomes.{PrintResult};
-ghost use Rattle.export.specs.Reports.{Reported, ReportedPlan, ReportedFill, reportOf, filledReport};
+ghost use Rattle.export.specs.Reports.{Reported, ReportedPlan, ReportedOutput, reportOf, outputReport};
 
 // `slacks::slacks`; returns the number of the refusal, 0 where the call is accepted, and stores its place.
 #[no_mangle]
@@ -141,13 +142,32 @@ pub extern "C" fn gyodaebeun_frame(
 }
 
 // The place and the number of bytes of an answer.
-fn filled(f: Filled) -> [u32; 2]
-    ensures { λ r. ⌜ r ≡ filledReport f ⌝ }
+fn reported_output(output: Output) -> [u32; 2]
+    ensures { λ r. ⌜ r ≡ outputReport output ⌝ }
 {
     [
-        star::refusals::place(files::filled::verdict(f)),
-        files::filled::length(f),
+        star::refusals::place(files::output::verdict(output)),
+        files::output::length(output),
     ]
+}
+
+// `file_writer::writing::write_file`; returns the number of the refusal, 0 where the call is accepted, and stores its place and the file's length.
+#[no_mangle]
+pub extern "C" fn gyodaebeun_write_scenario(
+    nodes: u32,
+    slots: u32,
+    limit: u32,
+    rule: u32,
+    kinds: &[u32],
+    cells: &[u32],
+    file: &mut [u8],
+    report: &mut [u32; 2],
+) -> u32
+    ensures { λ r. ⌜ ReportedOutput (WriteResult nodes slots limit rule (now (kinds .entry)) (now (cells .entry)) (now (file .entry)) (now (file .exit))) r (now (report .exit)) ⌝ }
+{
+    let output = file_writer::writing::write_file(nodes, slots, limit, rule, kinds, cells, file);
+    *report = reported_output(output);
+    star::refusals::number(files::output::verdict(output))
 }
 
 // `scenario_text::answers::print`; returns the number of the refusal, 0 where the call is accepted, and stores its place and the text's length.
@@ -157,9 +177,9 @@ pub extern "C" fn gyodaebeun_play_scenario(
     text: &mut [u8],
     report: &mut [u32; 2],
 ) -> u32
-    ensures { λ r. ⌜ ReportedFill (PrintResult (now (file .entry)) (now (text .entry)) (now (text .exit))) r (now (report .exit)) ⌝ }
+    ensures { λ r. ⌜ ReportedOutput (PrintResult (now (file .entry)) (now (text .entry)) (now (text .exit))) r (now (report .exit)) ⌝ }
 {
-    let f = scenario_text::answers::print(file, text);
-    *report = filled(f);
-    star::refusals::number(files::filled::verdict(f))
+    let output = scenario_text::answers::print(file, text);
+    *report = reported_output(output);
+    star::refusals::number(files::output::verdict(output))
 }

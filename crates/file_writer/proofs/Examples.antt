@@ -11,8 +11,8 @@ use Rattle.star.specs.declared.refusals.Refusal.the-variants.{DemandAbove}
 use Rattle.star.specs.declared.refusals.Verdict.the-variants.{Accepted, Refused}
 use Rattle.star.specs.Refusals.{Notice, notice, noticeOf, refuse}
 use Rattle.pieces.specs.Pieces.{joinTo}
-use Rattle.files.specs.declared.filled.Filled.the-variants as filled
-use Rattle.files.specs.Format.{two, four, post, frame, Scenario}
+use Rattle.files.specs.declared.output.Output.the-variants as output
+use Rattle.files.specs.Format.{post, frame, Scenario}
 use Rattle.file_writer.specs.Bytes.{postsTo, entryFrom, scenarioFrom, twoBytes, fourBytes, sizesBytes, entryBytes, cellBytes, fileBytes, fileLength}
 use Rattle.file_writer.specs.Writing.{firstUnknown, cellsVerdict, writeVerdict, writeAnswer, writeAfter}
 
@@ -51,7 +51,7 @@ unfolding scenarioFrom entryFrom postsTo tab sumTo
 case-n-tables = refl
 
 -- the length is answered; the bytes behind the file are as before, and a refusal writes nothing
-case-n-answer : writeAnswer Accepted 1 (0 ∷ 1 ∷ 0 ∷ 1 ∷ []) ≡ filled.Bytes 56
+case-n-answer : writeAnswer Accepted 1 (0 ∷ 1 ∷ 0 ∷ 1 ∷ []) ≡ output.Bytes 56
 unfolding writeAnswer postsTo sumTo
 case-n-answer = refl
 

@@ -20,7 +20,7 @@ use Rattle.star.specs.declared.refusals.Verdict.{Verdict}
 use Rattle.star.specs.declared.refusals.Verdict.the-variants.{Accepted, Refused}
 use Rattle.pieces.specs.Pieces.{joinTo}
 use Rattle.pieces.proofs.PieceLaws.{join-at}
-use Rattle.files.specs.declared.filled.Filled.the-variants as filled
+use Rattle.files.specs.declared.output.Output.the-variants as output
 use Rattle.files.specs.Format.{two, four, nodesOf, slotsOf, limitOf, ruleOf, entriesOf, kindOf, placeOf, tableEnd, matrixAt, post, entryOf, scenarioOf}
 use Rattle.files.proofs.ReadLaws.{Good, Sound, sound-accepted, table-read}
 use Rattle.file_writer.specs.Bytes.{postsTo, cellsIn, twoBytes, fourBytes, sizesBytes, placeAfter, entryBytes, cellBytes, fileBytes, fileLength, entryFrom, scenarioFrom}
@@ -230,10 +230,10 @@ module _ (n l limit rule : ℕ) (kinds cells : List ℕ) where
         }
 
 -- ---- what was written, cut to its length
-never-refused : {r : Refusal} {size : ℕ} → filled.Refused r ≡ filled.Bytes size → ⊥
+never-refused : {r : Refusal} {size : ℕ} → output.Refused r ≡ output.Bytes size → ⊥
 never-refused e = let z : _≡_ {A = ℕ} 0 1 = cc in omega arith
 
-back : (n l limit rule : ℕ) (kinds cells out out' : List ℕ) (size : ℕ) (v : Verdict) → writeVerdict n l limit rule kinds cells (length out) ≡ v → filled.Bytes size ≡ writeAnswer v n kinds →
+back : (n l limit rule : ℕ) (kinds cells out out' : List ℕ) (size : ℕ) (v : Verdict) → writeVerdict n l limit rule kinds cells (length out) ≡ v → output.Bytes size ≡ writeAnswer v n kinds →
     out' ≡ writeAfter v n l limit rule kinds cells out → ReadsBack n l limit rule kinds cells (take size out')
 unfolding writeAnswer writeAfter
 back n l limit rule kinds cells out out' size (Refused r) e a b = absurd (never-refused (sym a))
@@ -243,5 +243,5 @@ back n l limit rule kinds cells out out' size Accepted e a b =
     = ap₂ take long b ∙ written-first (fileLength n kinds) (fileBytes n l limit rule kinds cells) out (length-file n l limit rule kinds cells) in
     rw cut (reads-back n l limit rule kinds cells (can-write n l limit rule kinds cells (length out) e))
 
-pub round-trip : (n l limit rule : ℕ) (kinds cells out out' : List ℕ) (size : ℕ) → WriteResult n l limit rule kinds cells out out' (filled.Bytes size) → ReadsBack n l limit rule kinds cells (take size out')
+pub round-trip : (n l limit rule : ℕ) (kinds cells out out' : List ℕ) (size : ℕ) → WriteResult n l limit rule kinds cells out out' (output.Bytes size) → ReadsBack n l limit rule kinds cells (take size out')
 round-trip n l limit rule kinds cells out out' size w = back n l limit rule kinds cells out out' size _ refl (w .answer) (w .after)

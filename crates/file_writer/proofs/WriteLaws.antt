@@ -1,4 +1,4 @@
--- The writer's verdict check by check, what an accepted write has passed, and what `write` owes once its verdict is known. Assumes nothing.
+-- The writer's verdict check by check, what an accepted write has passed, and what `write_file` owes once its verdict is known. Assumes nothing.
 use Prim.Native.Nat.{ℕ, _+_, _*_, _≤_, _<_}
 use native.Mathlib.Omega.{arith}
 use mathlib.Core.Path.{_≡_, refl, sym, _∙_, ap, subst}
@@ -17,10 +17,10 @@ use Rattle.star.specs.Refusals.{noticeOf, firstAboveIn}
 use Rattle.star.proofs.RefusalLaws.{fires, passes, in-numbers, passed, ranges-fire, ranges-pass, in-ranges, each-within}
 use Rattle.pieces.specs.Pieces.{Appended, joinTo}
 use Rattle.pieces.proofs.PieceLaws.{appended-more, appended-front}
-use Rattle.files.specs.declared.filled.Filled.{Filled}
-use Rattle.files.specs.declared.filled.Filled.the-variants as filled
-use Rattle.files.specs.Filled.{filledVerdict}
+use Rattle.files.specs.declared.output.Output.{Output}
+use Rattle.files.specs.declared.output.Output.the-variants as output
 use Rattle.files.specs.Format.{tableEnd}
+use Rattle.files.specs.Output.{outputVerdict}
 use Rattle.file_writer.specs.Bytes.{postsTo, cellsIn, sizesBytes, entryBytes, cellBytes, fileBytes, fileLength}
 use Rattle.file_writer.specs.Writing.{firstUnknown, cellsVerdict, writeVerdict, writeNotice, writeAnswer, writeAfter, WriteResult}
 use Rattle.file_writer.proofs.ByteLaws.{posts-few, cells-few, length-sizes, length-entries, length-file}
@@ -102,24 +102,24 @@ write-notice n l limit rule kinds cells room =
     (in-numbers _ _ _
     (in-numbers _ _ _ (in-numbers _ _ _ (in-numbers _ _ _ (in-numbers _ _ _ (in-numbers _ _ _ (in-numbers _ _ _ refl))))))))
 
-answer-verdict : (v : Verdict) (n : ℕ) (kinds : List ℕ) → filledVerdict (writeAnswer v n kinds) ≡ v
+answer-verdict : (v : Verdict) (n : ℕ) (kinds : List ℕ) → outputVerdict (writeAnswer v n kinds) ≡ v
 unfolding writeAnswer
 answer-verdict Accepted n kinds = refl
 answer-verdict (Refused r) n kinds = refl
 
--- ---- what `write` owes
+-- ---- what `write_file` owes
 module _ (n l limit rule : ℕ) (kinds cells out : List ℕ) {v : Verdict} (is : v ≡ writeVerdict n l limit rule kinds cells (length out)) where
   pub write-can : v ≡ Accepted → CanWrite n l limit rule kinds cells (length out)
   write-can e = can-write n l limit rule kinds cells (length out) (sym is ∙ e)
 
-  result : {w : Verdict} (r : Filled) (out' : List ℕ) → w ≡ v → r ≡ writeAnswer w n kinds → out' ≡ writeAfter w n l limit rule kinds cells out → WriteResult n l limit rule kinds cells out out' r
+  result : {w : Verdict} (r : Output) (out' : List ℕ) → w ≡ v → r ≡ writeAnswer w n kinds → out' ≡ writeAfter w n l limit rule kinds cells out → WriteResult n l limit rule kinds cells out out' r
   result {w = w} r out' e answer after = record {
     answer = answer ∙ ap (λ v. writeAnswer v n kinds) (e ∙ is);
-    notice = ap noticeOf (ap filledVerdict answer ∙ answer-verdict w n kinds ∙ e ∙ is) ∙ write-notice n l limit rule kinds cells (length out);
+    notice = ap noticeOf (ap outputVerdict answer ∙ answer-verdict w n kinds ∙ e ∙ is) ∙ write-notice n l limit rule kinds cells (length out);
     after = after ∙ ap (λ v. writeAfter v n l limit rule kinds cells out) (e ∙ is);
   }
 
-  pub write-refused : {r : Refusal} → v ≡ Refused r → WriteResult n l limit rule kinds cells out out (filled.Refused r)
+  pub write-refused : {r : Refusal} → v ≡ Refused r → WriteResult n l limit rule kinds cells out out (output.Refused r)
   unfolding writeAnswer writeAfter
   write-refused e = result _ out (sym e) refl refl
 
@@ -144,9 +144,9 @@ module _ (n l limit rule : ℕ) (kinds cells out : List ℕ) {v : Verdict} (is :
         let can = write-can accepted in
         omega (arith, its-length, can .few, cells-few n (postsTo kinds (length kinds)) (can .ranges .nodes) (omega (arith, can .few, posts-few kinds (length kinds))))
 
-    pub write-done : WriteResult n l limit rule kinds cells out o3 (filled.Bytes r3)
+    pub write-done : WriteResult n l limit rule kinds cells out o3 (output.Bytes r3)
     unfolding writeAnswer writeAfter
     write-done =
-        result (filled.Bytes r3) o3 (sym accepted) (ap filled.Bytes its-length)
+        result (output.Bytes r3) o3 (sym accepted) (ap output.Bytes its-length)
         (appended-front out o3 (fileBytes n l limit rule kinds cells) r3 whole
         ∙ ap (λ k. written k (fileBytes n l limit rule kinds cells) out) (length-file n l limit rule kinds cells))

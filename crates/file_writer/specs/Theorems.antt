@@ -1,4 +1,4 @@
--- What follows from the promise of `write`, as statements; their proofs are in proofs/WriteTheorems.antt.
+-- What follows from the promise of `write_file`, as statements; their proofs are in proofs/WriteTheorems.antt.
 use Prim.Native.Nat.{ℕ, _+_, _*_, _<_}
 use mathlib.Core.Path.{_≡_}
 use mathlib.Core.List.{List}
@@ -7,8 +7,8 @@ use Rattle.star.specs.declared.refusals.Verdict.the-variants.{Accepted}
 use Rattle.files.specs.declared.reading.Reading.the-variants.{Table}
 use Rattle.files.specs.Format.{two, kindOf, placeOf, scenarioOf}
 use Rattle.files.specs.Reading.{readVerdict, readAnswer}
-use Rattle.files.specs.declared.filled.Filled.{Filled}
-use Rattle.files.specs.declared.filled.Filled.the-variants.{Bytes}
+use Rattle.files.specs.declared.output.Output.{Output}
+use Rattle.files.specs.declared.output.Output.the-variants.{Bytes}
 use Rattle.file_writer.specs.Bytes.{postsTo, scenarioFrom}
 use Rattle.file_writer.specs.Writing.{WriteResult}
 
@@ -25,5 +25,5 @@ pub record WriteTheorems : Type 0 where
   pub back : (n l limit rule : ℕ) (kinds cells out out' : List ℕ) (size : ℕ) → WriteResult n l limit rule kinds cells out out' (Bytes size) →
       ReadsBack n l limit rule kinds cells (take size out')
   -- two results on the same input are one
-  pub unique : (n l limit rule : ℕ) (kinds cells out out₁ out₂ : List ℕ) (r₁ r₂ : Filled) → WriteResult n l limit rule kinds cells out out₁ r₁ →
+  pub unique : (n l limit rule : ℕ) (kinds cells out out₁ out₂ : List ℕ) (r₁ r₂ : Output) → WriteResult n l limit rule kinds cells out out₁ r₁ →
       WriteResult n l limit rule kinds cells out out₂ r₂ → (r₁ ≡ r₂) × (out₁ ≡ out₂)

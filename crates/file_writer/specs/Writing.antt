@@ -11,9 +11,9 @@ use Rattle.star.specs.declared.refusals.Verdict.{Verdict}
 use Rattle.star.specs.declared.refusals.Verdict.the-variants as verdict
 use Rattle.star.specs.Checks.{rangesThen}
 use Rattle.star.specs.Refusals.{Notice, noticeOf, accepted, check, refuse, nodesOut, slotsOut, ruleOut, limitOut, short, someCell, firstAboveIn}
-use Rattle.files.specs.declared.filled.Filled.{Filled}
-use Rattle.files.specs.declared.filled.Filled.the-variants.{Bytes, Refused}
-use Rattle.files.specs.Filled.{filledVerdict}
+use Rattle.files.specs.declared.output.Output.{Output}
+use Rattle.files.specs.declared.output.Output.the-variants.{Bytes, Refused}
+use Rattle.files.specs.Output.{outputVerdict}
 use Rattle.file_writer.specs.Bytes.{cellsIn, fileBytes, fileLength}
 
 -- the first entry, from 0, with an unknown kind, neither 0 nor 1; or the number of entries
@@ -52,7 +52,7 @@ writeNotice n l limit rule kinds cells room =
     accepted))))))))
 
 -- what is answered, given the verdict: the file's length, or the refusal
-unfoldable pub writeAnswer : (v : Verdict) (n : ℕ) (kinds : List ℕ) → Filled
+unfoldable pub writeAnswer : (v : Verdict) (n : ℕ) (kinds : List ℕ) → Output
 writeAnswer verdict.Accepted n kinds = Bytes (fileLength n kinds)
 writeAnswer (verdict.Refused r) n kinds = Refused r
 
@@ -61,8 +61,8 @@ unfoldable pub writeAfter : (v : Verdict) (n l limit rule : ℕ) (kinds cells ou
 writeAfter verdict.Accepted n l limit rule kinds cells out = written (fileLength n kinds) (fileBytes n l limit rule kinds cells) out
 writeAfter (verdict.Refused r) n l limit rule kinds cells out = out
 
--- what `write` promises for every input
-pub record WriteResult (n l limit rule : ℕ) (kinds cells out out' : List ℕ) (r : Filled) : Type 0 where
+-- what `write_file` promises for every input
+pub record WriteResult (n l limit rule : ℕ) (kinds cells out out' : List ℕ) (r : Output) : Type 0 where
   pub answer : r ≡ writeAnswer (writeVerdict n l limit rule kinds cells (length out)) n kinds
-  pub notice : noticeOf (filledVerdict r) ≡ writeNotice n l limit rule kinds cells (length out)
+  pub notice : noticeOf (outputVerdict r) ≡ writeNotice n l limit rule kinds cells (length out)
   pub after : out' ≡ writeAfter (writeVerdict n l limit rule kinds cells (length out)) n l limit rule kinds cells out

@@ -3,7 +3,7 @@ use crate::bytes::count_posts;
 use crate::bytes::put_cells;
 use crate::bytes::put_entries;
 use crate::bytes::put_sizes;
-use files::filled::Filled;
+use files::output::Output;
 use star::checks::ranges;
 use star::lines::first_above;
 use star::refusals::Refusal;
@@ -107,7 +107,7 @@ fn write_verdict(
 // Writes the file of the tables and gives its length; bytes behind it are as before. Refused, in this order: over 4,096 entries (10, place 0),
 // N (1), L (2), the rule (3), B (7), an unknown kind (10, place the entry), missing cells (4), too few bytes (5), a cell above 65,535 (6, place
 // the cell in the table of all cells); then nothing is written.
-pub fn write(
+pub fn write_file(
     nodes: u32,
     slots: u32,
     limit: u32,
@@ -115,17 +115,17 @@ pub fn write(
     kinds: &[u32],
     cells: &[u32],
     out: &mut [u8],
-) -> Filled
+) -> Output
     ensures { λ r. ⌜ WriteResult nodes slots limit rule (now (kinds .entry)) (now (cells .entry)) (now (out .entry)) (now (out .exit)) r ⌝ }
 {
     let v = write_verdict(nodes, slots, limit, rule, kinds, cells, out.len());
     if let Verdict::Refused { refusal } = v {
-        return Filled::Refused { refusal: refusal };
+        return Output::Refused { refusal: refusal };
     }
     let n = nodes as usize;
     let after_sizes = put_sizes(out, nodes, slots, limit, rule, kinds.len() as u32);
     let after_entries = put_entries(out, after_sizes, n, kinds);
     let count = count_posts(kinds) * (n * n);
     let end = put_cells(out, after_entries, cells, count);
-    Filled::Bytes { length: end as u32 }
+    Output::Bytes { length: end as u32 }
 }

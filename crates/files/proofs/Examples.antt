@@ -8,12 +8,11 @@ use lib.ListN.{replicate}
 use Rattle.sums.specs.Searches.{firstBelow, firstFrom}
 use Rattle.sums.specs.Tables.{tab}
 use Rattle.star.specs.declared.refusals.Refusal.the-variants.{BadFile, TableShort}
-use Rattle.star.specs.declared.refusals.Verdict.the-variants.{Accepted}
 use Rattle.star.specs.Refusals.{verdictNumber, verdictPlace, refuse, notice, accepted, check}
-use Rattle.files.specs.declared.filled.Filled.the-variants as filled
+use Rattle.files.specs.declared.output.Output.the-variants as output
 use Rattle.files.specs.declared.reading.Reading.the-variants.{Table, Refused}
-use Rattle.files.specs.Filled.{filledVerdict, filledLength}
 use Rattle.files.specs.Format.{two, four, kindOf, placeOf, matrixAt, post, frame, entryOf, scenarioOf}
+use Rattle.files.specs.Output.{outputVerdict, outputLength}
 use Rattle.files.specs.Reading.{tableBad, matrixOut, entryBadOf, entryBad, firstBad, readVerdict, readNotice, readAnswer}
 
 -- ---- numbers
@@ -111,8 +110,8 @@ unfolding readNotice tableBad firstBad entryBad kindOf placeOf four two check fi
 numbers-order = refl
 
 -- ---- calls that write bytes
-filled-lengths : map filledLength (filled.Bytes 56 ∷ filled.Refused TableShort ∷ []) ≡ 56 ∷ 0 ∷ []
-filled-lengths = refl
+output-lengths : map outputLength (output.Bytes 56 ∷ output.Refused TableShort ∷ []) ≡ 56 ∷ 0 ∷ []
+output-lengths = refl
 
-filled-numbers : map (λ f. verdictNumber (filledVerdict f)) (filled.Bytes 56 ∷ filled.Refused (BadFile 3) ∷ []) ≡ 0 ∷ 10 ∷ []
-filled-numbers = refl
+output-numbers : map (λ f. verdictNumber (outputVerdict f)) (output.Bytes 56 ∷ output.Refused (BadFile 3) ∷ []) ≡ 0 ∷ 10 ∷ []
+output-numbers = refl

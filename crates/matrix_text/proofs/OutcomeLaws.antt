@@ -8,10 +8,9 @@ use mathlib.Core.Bool.{Bool, true, false, _||_}
 use mathlib.Core.List.{List, [], _∷_}
 use mathlib.Core.Option.{none}
 use lib.Dec.{leb, eqb}
-use lib.ListN.{length, getD, take, drop, length-append, length-drop}
+use lib.ListN.{length, getD, take, drop, length-drop}
 use lib.Seq.{getD-take, take-all, take-add, drop-at, length-take-le}
 use borrow.Author.Tests.{eqb-true, lt-ltb, le-ltb, le-leb, lt-leb}
-use Rattle.sums.specs.Tables.{written}
 use Rattle.sums.proofs.Cases.{by-test}
 use Rattle.sums.proofs.Tables.{mul-small}
 use Rattle.star.specs.declared.refusals.Refusal.{Refusal}

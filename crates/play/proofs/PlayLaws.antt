@@ -28,7 +28,7 @@ use Rattle.run.proofs.HistoryLaws.{books-hold, always-callable}
 use Rattle.files.specs.Format.{two, nodesOf, slotsOf, limitOf, ruleOf, entriesOf, kindOf, placeOf, Entry, post, frame, entryOf, matrixAt}
 use Rattle.files.specs.Reading.{readVerdict}
 use Rattle.files.proofs.ReadLaws.{Sound, accepted-sound}
-use Rattle.play.specs.Plays.{told, none, more, Played, Rooms, CanPlay, PostPlayed, FramePlayed}
+use Rattle.play.specs.Plays.{told, none, more, Played, LargeTables, CanPlay, PostPlayed, FramePlayed}
 
 -- ---- few events
 told-one : (es : List Entry) (e : Entry) → length (es ++ (e ∷ [])) ≡ length es + 1
@@ -166,7 +166,7 @@ pub played-post-at : {file : List ℕ} {e at : ℕ} {run new : Run} {w p s d w' 
 played-post-at {file} {e} {at} {run} {new} {w} {p} {s} {d} {w'} {p'} {d'} c h z there q is = played-post c h (subst (λ x. PostPlayed file x run w p s d w' p' d') there q) z is
 
 -- ---- the start
-module _ (file : List ℕ) {n l limit rule : ℕ} {old start : Run} {w p s d w' p' s' d' : List ℕ} {v : Verdict} (good : readVerdict file ≡ Accepted) (hn : n ≡ nodesOf file) (hl : l ≡ slotsOf file) (hb : limit ≡ limitOf file) (hr : rule ≡ ruleOf file) (rooms : Rooms w p s d) (f : Freshened old n l limit rule w p s d w' p' s' d' v) (is : start ≡ freshRun old n l limit rule Accepted) where
+module _ (file : List ℕ) {n l limit rule : ℕ} {old start : Run} {w p s d w' p' s' d' : List ℕ} {v : Verdict} (good : readVerdict file ≡ Accepted) (hn : n ≡ nodesOf file) (hl : l ≡ slotsOf file) (hb : limit ≡ limitOf file) (hr : rule ≡ ruleOf file) (rooms : LargeTables w p s d) (f : Freshened old n l limit rule w p s d w' p' s' d' v) (is : start ≡ freshRun old n l limit rule Accepted) where
   fresh-call : (new : Run) → new ≡ freshRun old n l limit rule v → FreshCall n l limit rule (held old w p s d) (held new w' p' s' d') v
   fresh-call new e = record { tables = f; record' = e }
 

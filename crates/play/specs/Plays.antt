@@ -1,5 +1,5 @@
 -- Playing a file: a history of a run whose events are the file's entries, in their order, each accepted.
-use Prim.Native.Nat.{ℕ, _*_, _≤_}
+use Prim.Native.Nat.{ℕ, _≤_}
 use mathlib.Core.Path.{_≡_}
 use mathlib.Core.List.{List, [], _∷_, _++_}
 use lib.ListN.{length}
@@ -41,7 +41,7 @@ pub record CanPlay (file : List ℕ) (count : ℕ) (run : Run) (waiting posted s
   pub played : Played file count (held run waiting posted sent dropped)
 
 -- tables long enough for 64 nodes
-pub record Rooms (waiting posted sent dropped : List ℕ) : Type 0 where
+pub record LargeTables (waiting posted sent dropped : List ℕ) : Type 0 where
   pub queues : 4096 ≤ length waiting
   pub postings : 4096 ≤ length posted
   pub sendings : 4096 ≤ length sent

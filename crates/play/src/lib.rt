@@ -17,7 +17,7 @@ ghost use Rattle.calls.specs.Runs.{postRun, frameRun};
 ghost use Rattle.run.specs.Held.{held};
 ghost use Rattle.files.specs.Format.{two, entriesOf};
 ghost use Rattle.files.specs.Reading.{readVerdict};
-ghost use Rattle.play.specs.Plays.{Played, Rooms, CanPlay, PostPlayed, FramePlayed};
+ghost use Rattle.play.specs.Plays.{Played, LargeTables, CanPlay, PostPlayed, FramePlayed};
 
 // The cells of the matrix at a place go to the front of a table.
 fn read_cells(file: &[u8], at: usize, table: &mut [u32], cells: usize)
@@ -155,7 +155,7 @@ pub fn play(
     dropped: &mut [u64],
 ) -> Run
     requires { ⌜ readVerdict (now file) ≡ Accepted ⌝ }
-    requires { ⌜ Rooms (now waiting) (now posted) (now sent) (now dropped) ⌝ }
+    requires { ⌜ LargeTables (now waiting) (now posted) (now sent) (now dropped) ⌝ }
     ensures { λ r. ⌜ Played (now (file .entry)) (entriesOf (now (file .entry))) (held r (now (waiting .exit)) (now (posted .exit)) (now (sent .exit)) (now (dropped .exit))) ⌝ }
 {
     let nodes = four(file, 0);

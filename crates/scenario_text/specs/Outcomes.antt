@@ -11,8 +11,8 @@ use Rattle.star.specs.Refusals.{refusalNumber, refusalPlace, Notice, noticeOf, 
 use Rattle.pieces.specs.Pieces.{Answered}
 use Rattle.pieces.specs.Text.{badInput, refusalText}
 use Rattle.run.specs.Held.{Held}
-use Rattle.files.specs.declared.filled.Filled.{Filled}
-use Rattle.files.specs.Filled.{filledVerdict, filledLength}
+use Rattle.files.specs.declared.output.Output.{Output}
+use Rattle.files.specs.Output.{outputVerdict, outputLength}
 use Rattle.files.specs.Format.{nodesOf, entriesOf}
 use Rattle.files.specs.Reading.{readVerdict}
 use Rattle.play.specs.Plays.{Played}
@@ -40,8 +40,8 @@ unfoldable pub printNotice : (lent : ℕ) → Notice
 printNotice lent = check (short lent room) 5 0 accepted
 
 -- What `print` promises for every file and every lent bytes: the text for the file, or a refusal that writes nothing.
-pub record PrintResult (file text text' : List ℕ) (r : Filled) : Type 0 where
-  pub answer : filledVerdict r ≡ printVerdict (length text)
-  pub notice : noticeOf (filledVerdict r) ≡ printNotice (length text)
-  pub accepted : filledVerdict r ≡ Accepted → Answered (PrintsFile file) text text' (filledLength r)
-  pub refused : (x : Refusal) → filledVerdict r ≡ Refused x → text' ≡ text
+pub record PrintResult (file text text' : List ℕ) (r : Output) : Type 0 where
+  pub answer : outputVerdict r ≡ printVerdict (length text)
+  pub notice : noticeOf (outputVerdict r) ≡ printNotice (length text)
+  pub accepted : outputVerdict r ≡ Accepted → Answered (PrintsFile file) text text' (outputLength r)
+  pub refused : (x : Refusal) → outputVerdict r ≡ Refused x → text' ≡ text

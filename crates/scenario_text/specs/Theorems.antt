@@ -8,8 +8,8 @@ use Rattle.star.specs.declared.refusals.Refusal.{Refusal}
 use Rattle.star.specs.declared.refusals.Verdict.the-variants.{Accepted, Refused}
 use Rattle.pieces.specs.Pieces.{Answered}
 use Rattle.run.specs.Held.{Held}
-use Rattle.files.specs.declared.filled.Filled.{Filled}
-use Rattle.files.specs.Filled.{filledVerdict}
+use Rattle.files.specs.declared.output.Output.{Output}
+use Rattle.files.specs.Output.{outputVerdict}
 use Rattle.files.specs.Format.{nodesOf, ruleOf, entriesOf}
 use Rattle.files.specs.Reading.{readVerdict}
 use Rattle.play.specs.Plays.{Played}
@@ -37,8 +37,10 @@ pub record PrintsAgree (input text₁ text₂ : List ℕ) : Type 0 where
 
 pub record PrintTheorems : Type 0 where
   pub unique : (input text₁ text₂ : List ℕ) → PrintsFile input text₁ → PrintsFile input text₂ → PrintsAgree input text₁ text₂
+  -- with rule 0 in its table an input has one text, whatever else it holds
+  pub certain : (input text₁ text₂ : List ℕ) → PrintsFile input text₁ → PrintsFile input text₂ → ruleOf input ≡ 0 → text₁ ≡ text₂
   -- where the texts are the same, so are all lent bytes and the length given
   pub bytes : (input out out₁ out₂ : List ℕ) (r₁ r₂ : ℕ) (a : Answered (PrintsFile input) out out₁ r₁) (b : Answered (PrintsFile input) out out₂ r₂) → a .text ≡ b .text →
       (out₁ ≡ out₂) × (r₁ ≡ r₂)
   -- bytes enough for the longest text are accepted, whatever the file
-  pub accepts : (file text text' : List ℕ) (r : Filled) → PrintResult file text text' r → room ≤ length text → filledVerdict r ≡ Accepted
+  pub accepts : (file text text' : List ℕ) (r : Output) → PrintResult file text text' r → room ≤ length text → outputVerdict r ≡ Accepted

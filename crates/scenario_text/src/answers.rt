@@ -1,6 +1,6 @@
 // The answer to an input: `bad input`, a refusal, or the lines of the run.
 use crate::lines::put_lines;
-use files::filled::Filled;
+use files::output::Output;
 use files::reading::Reading;
 use files::reading::read;
 use pieces::put_bad_input;
@@ -26,7 +26,7 @@ ghost use Rattle.scenario_text.specs.Outcomes.{PrintsFile, PrintsRun, Pr
 pub const ROOM: usize = 516096;
 
 // Prints a refusal.
-fn put_refused(out: &mut [u8], refusal: Refusal) -> usize
+fn put_refused_file(out: &mut [u8], refusal: Refusal) -> usize
     requires { ⌜ room ≤ length (now out) ⌝ }
     ensures { λ r. ⌜ (Appended (now (out .entry)) (now (out .exit)) 0 r (refusalText (refusalNumber refusal) (refusalPlace refusal))) × (r ≤ room) ⌝ }
 {
@@ -48,7 +48,7 @@ fn put_run(out: &mut [u8], file: &[u8], n: usize) -> usize
 }
 
 // Prints the answer to an input from the front, and gives its length.
-fn put_answer(out: &mut [u8], input: &[u8]) -> usize
+fn put_outcome(out: &mut [u8], input: &[u8]) -> usize
     requires { ⌜ room ≤ length (now out) ⌝ }
     ensures { λ r. ⌜ (Answered (PrintsFile (now (input .entry))) (now (out .entry)) (now (out .exit)) r) × (r ≤ room) ⌝ }
 {
@@ -56,7 +56,7 @@ fn put_answer(out: &mut [u8], input: &[u8]) -> usize
         return put_bad_input(out);
     }
     match read(input) {
-        Reading::Refused { refusal } => put_refused(out, refusal),
+        Reading::Refused { refusal } => put_refused_file(out, refusal),
         Reading::Table {
             nodes,
             slots: _,
@@ -71,19 +71,19 @@ fn put_answer(out: &mut [u8], input: &[u8]) -> usize
 pub fn answer(input: &[u8], out: &mut [u8; ROOM]) -> usize
     ensures { λ r. ⌜ Answered (PrintsFile (now (input .entry))) (now (out .entry)) (now (out .exit)) r ⌝ }
 {
-    put_answer(out, input)
+    put_outcome(out, input)
 }
 
 // The same into bytes of any length: refused by 5, and then nothing is written, where they are fewer than the longest text may take.
-pub fn print(file: &[u8], text: &mut [u8]) -> Filled
+pub fn print(file: &[u8], text: &mut [u8]) -> Output
     ensures { λ r. ⌜ PrintResult (now (file .entry)) (now (text .entry)) (now (text .exit)) r ⌝ }
 {
     if text.len() < ROOM {
-        return Filled::Refused {
+        return Output::Refused {
             refusal: Refusal::TableShort,
         };
     }
-    Filled::Bytes {
-        length: put_answer(text, file) as u32,
+    Output::Bytes {
+        length: put_outcome(text, file) as u32,
     }
 }

@@ -1,10 +1,9 @@
 // The printed lines, piece by piece.
 use pieces::put_marked;
-ghost use mathlib.Core.Path.{_≡_};
 ghost use Prim.Native.Nat.{_+_, _≤_};
 ghost use lib.ListN.{length};
 ghost use Rattle.pieces.specs.Pieces.{Appended};
-ghost use Rattle.play.specs.Plays.{Rooms};
+ghost use Rattle.play.specs.Plays.{LargeTables};
 ghost use Rattle.scenario_text.specs.Lines.{lineText, pairText, linesText, room};
 
 // The line of a pair.
@@ -59,7 +58,7 @@ pub fn put_lines(
     waiting: &[u32],
 ) -> usize
     requires { ⌜ (1 ≤ n) × (n ≤ 64) × (room ≤ length (now out)) ⌝ }
-    requires { ⌜ Rooms (now waiting) (now posted) (now sent) (now dropped) ⌝ }
+    requires { ⌜ LargeTables (now waiting) (now posted) (now sent) (now dropped) ⌝ }
     ensures { λ r. ⌜ (Appended (now (out .entry)) (now (out .exit)) 0 r (linesText n (now (posted .entry)) (now (sent .entry)) (now (dropped .entry)) (now (waiting .entry)))) × (r ≤ room) ⌝ }
 {
     let cells = n * n;

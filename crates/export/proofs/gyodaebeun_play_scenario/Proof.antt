@@ -8,8 +8,8 @@ use Rattle.export.proofs.gyodaebeun_play_scenario.Tie as tie
 print-requires : tie.Need-print-requires
 print-requires c κs = search needs
 
-filled-requires : tie.Need-filled-requires
-filled-requires c κs = search needs
+reported-output-requires : tie.Need-reported-output-requires
+reported-output-requires c κs = search needs
 
 verdict-requires : tie.Need-verdict-requires
 verdict-requires c κs = search needs
@@ -21,9 +21,9 @@ same-length : tie.Need-same-length
 same-length c = search needs
 
 returns : tie.Need-returns
-returns c = record { answer = c .before .before .before .before .before .print .result; kept = c .before .before .before .before .before .print .ensures; its-number = c .number .ensures ∙ ap verdictNumber (c .before .verdict .ensures); its-report = c .before .before .filled .ensures }
+returns c = record { answer = c .before .before .before .before .before .print .result; kept = c .before .before .before .before .before .print .ensures; its-number = c .number .ensures ∙ ap verdictNumber (c .before .verdict .ensures); its-report = c .before .before .reported-output .ensures }
 
 pub gyodaebeun-play-scenario-spec : {M : Type 1} → statement M
 gyodaebeun-play-scenario-spec =
     tie.close
-    (tie.spec print-requires filled-requires verdict-requires number-requires same-length returns)
+    (tie.spec print-requires reported-output-requires verdict-requires number-requires same-length returns)

@@ -1,4 +1,4 @@
--- `write` meets its contract: nothing is written after a refusal; else sizes, entries and cells one after the other are the file. Assumes nothing.
+-- `write_file` meets its contract: nothing is written after a refusal; else sizes, entries and cells one after the other are the file. Assumes nothing.
 use Prim.Native.Nat.{_*_}
 use native.Mathlib.Omega.{arith}
 use mathlib.Core.Path.{_∙_, ap}
@@ -6,8 +6,8 @@ use lib.ListN.{length}
 use Rattle.sums.proofs.Tables.{mul-small}
 use Rattle.file_writer.proofs.ByteLaws.{posts-few, cells-few, length-sizes, length-entries}
 use Rattle.file_writer.proofs.WriteLaws.{write-can, write-refused, write-fits, write-done}
-use Rattle.file_writer.proofs.writing.write.Statement.{statement}
-use Rattle.file_writer.proofs.writing.write.Tie as tie
+use Rattle.file_writer.proofs.writing.write_file.Statement.{statement}
+use Rattle.file_writer.proofs.writing.write_file.Tie as tie
 
 write-verdict-requires : tie.Need-write-verdict-requires
 write-verdict-requires c κs = tt
@@ -57,8 +57,8 @@ same-length c = c .before .before .put-cells .kept .0 ∙ c .before .before .bef
 returns-2 : tie.Need-returns-2
 returns-2 c = write-done _ _ _ _ _ _ _ (c .before .before .before .before .before .before .before .before .before .before .before .before .before .before .before .write-verdict .ensures) (c .before .before .before .before .before .before .before .before .before .before .before .before .before .enum-told .given .1) (c .before .before .before .before .before .before .before .before .before .before .before .put-sizes .ensures) (c .before .before .before .before .before .before .before .put-entries .ensures) (c .before .before .put-cells .ensures) (ap (λ p. p * (c .before .before .before .before .before .before .before .before .before .before .before .before .before .before .before .before .before .before .before .args .nodes * c .before .before .before .before .before .before .before .before .before .before .before .before .before .before .before .before .before .before .before .args .nodes)) (c .before .before .before .before .count-posts .ensures))
 
-pub write-spec : {M : Type 1} → statement M
-write-spec =
+pub write-file-spec : {M : Type 1} → statement M
+write-file-spec =
     tie.close
     (tie.spec
     write-verdict-requires

@@ -1,9 +1,9 @@
--- `put_refused` meets its contract: number and place of the refusal. Assumes nothing.
+-- `put_refused_file` meets its contract: number and place of the refusal. Assumes nothing.
 use native.Mathlib.Omega.{arith}
 use borrow.Author.Needs.{needs}
 use Rattle.scenario_text.proofs.LineLaws.{refusal-done}
-use Rattle.scenario_text.proofs.answers.put_refused.Statement.{statement}
-use Rattle.scenario_text.proofs.answers.put_refused.Tie as tie
+use Rattle.scenario_text.proofs.answers.put_refused_file.Statement.{statement}
+use Rattle.scenario_text.proofs.answers.put_refused_file.Tie as tie
 
 number-requires : tie.Need-number-requires
 number-requires c κs = search needs
@@ -26,8 +26,8 @@ same-length c = search needs
 returns : tie.Need-returns
 returns c = refusal-done (c .before .before .before .before .before .before .before .args .refusal) (omega arith) (omega arith) (c .before .before .before .before .number .ensures) (c .before .before .before .place .ensures) (c .before .before .put-refusal .ensures)
 
-pub put-refused-spec : {M : Type 1} → statement M
-put-refused-spec =
+pub put-refused-file-spec : {M : Type 1} → statement M
+put-refused-file-spec =
     tie.close
     (tie.spec
     number-requires
