@@ -50,15 +50,18 @@
  * demands, rounded up, in bytes:
  *
  *   slacks            1200
- *   fresh, post        250
- *   plan, frame       3900 under either rule
- *   write_scenario     250
- *   play_scenario   250000 under either rule
+ *   fresh              200
+ *   post               350
+ *   plan              3800 under either rule
+ *   frame             4000 under either rule
+ *   write_scenario     200
+ *   play_scenario   218000 under either rule
  *
- * Of these, placing what is kept takes 1500. No function of the library calls itself, and a call
- * takes the same whatever is asked; so 4 KiB are enough for every entry but play_scenario, which
- * holds the tables of the run that it plays. A program that binds symbols lazily may take 4 KiB more
- * when memset or memcpy is called first. */
+ * Of a plan or a frame, placing what is kept takes 1500. No function of the library calls itself but
+ * the one that prints a number, for each digit once, and a call takes the same whatever is asked; so
+ * 4 KiB are enough for every entry but play_scenario, which holds the tables of the run that it
+ * plays: for it 220 KiB are enough, more than some systems give a thread. A program that binds
+ * symbols lazily may take 4 KiB more when memset or memcpy is called first. */
 
 #ifndef GYODAEBEUN_H
 #define GYODAEBEUN_H

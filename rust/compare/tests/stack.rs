@@ -18,8 +18,8 @@ fn placement() {
 /// It holds the tables of the run that it plays.
 #[test]
 fn playing() {
-    at_most(300_000, "play_scenario, fair");
-    at_most(300_000, "play_scenario, least");
+    at_most(225_280, "play_scenario, fair");
+    at_most(225_280, "play_scenario, least");
 }
 
 #[test]

@@ -4,7 +4,7 @@
 //! Matrices are row-major: pair (i,j), source i to destination j, is cell i×N+j. A longer table
 //! than needed is accepted; its extra cells are neither read nor changed. All tables are the
 //! caller's, and so is the record of a run. A call takes no other memory than its stack, of which
-//! 4 KiB are enough on x86-64, but for [`play_scenario`], which takes a quarter of a megabyte
+//! 4 KiB are enough on x86-64, but for [`play_scenario`], for which 220 KiB are
 //! (`gyodaebeun.h` has what was measured).
 //!
 //! One frame, planned under the least rule: of 12 slots asked, the frame carries 10.

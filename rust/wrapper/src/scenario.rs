@@ -92,7 +92,7 @@ pub fn write_scenario(
 /// Every line ends with a line feed.
 ///
 /// Refused by [`Refusal::TableShort`], exactly if `text` has fewer than [`TEXT_BYTES`] bytes; then
-/// nothing is written. This call takes a quarter of a megabyte of stack.
+/// nothing is written. This call needs 220 KiB of stack.
 pub fn play_scenario(file: &[u8], text: &mut [u8]) -> Result<usize, Refusal> {
     let mut report = [0; 2];
     let number = unsafe {
