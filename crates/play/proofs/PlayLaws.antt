@@ -25,15 +25,12 @@ use Rattle.run.specs.Theorems.{Callable}
 use Rattle.run.proofs.CallLaws.{fresh-theorems, post-theorems}
 use Rattle.run.proofs.FrameLaws.{frame-theorems}
 use Rattle.run.proofs.HistoryLaws.{books-hold, always-callable}
-use Rattle.files.specs.Format.{two, nodesOf, slotsOf, limitOf, ruleOf, entriesOf, kindOf, placeOf, Entry, post, frame, entryOf, matrixAt}
+use Rattle.files.specs.Format.{two, nodesOf, slotsOf, limitOf, ruleOf, entriesOf, kindOf, placeOf, post, frame, entryOf, matrixAt}
 use Rattle.files.specs.Reading.{readVerdict}
 use Rattle.files.proofs.ReadLaws.{Sound, accepted-sound}
 use Rattle.play.specs.Plays.{told, none, more, Played, LargeTables, CanPlay, PostPlayed, FramePlayed}
 
 -- ---- few events
-told-one : (es : List Entry) (e : Entry) → length (es ++ (e ∷ [])) ≡ length es + 1
-told-one es e = length-append es (e ∷ [])
-
 whether-few : (v : Verdict) → whether v 1 0 ≤ 1
 whether-few Accepted = omega arith
 whether-few (Refused r) = omega arith
@@ -41,15 +38,15 @@ whether-few (Refused r) = omega arith
 posts-few : (es : List Event) → postsOf es ≤ length (told es)
 unfolding told postsOf
 posts-few [] = omega arith
-posts-few (posting a v ∷ es) = omega (arith, posts-few es, whether-few v, told-one (told es) (post a))
-posts-few (framing lent plan r ∷ es) = omega (arith, posts-few es, told-one (told es) frame)
+posts-few (posting a v ∷ es) = simp length-append (omega (arith, posts-few es, whether-few v))
+posts-few (framing lent plan r ∷ es) = simp length-append (omega (arith, posts-few es))
 posts-few (restarting n l limit rule x ∷ es) = posts-few es
 
 frames-few : (es : List Event) → framesOf es ≤ length (told es)
 unfolding told framesOf
 frames-few [] = omega arith
-frames-few (posting a v ∷ es) = omega (arith, frames-few es, told-one (told es) (post a))
-frames-few (framing lent plan r ∷ es) = omega (arith, frames-few es, whether-few (verdictOf r), told-one (told es) frame)
+frames-few (posting a v ∷ es) = simp length-append (omega (arith, frames-few es))
+frames-few (framing lent plan r ∷ es) = simp length-append (omega (arith, frames-few es, whether-few (verdictOf r)))
 frames-few (restarting n l limit rule x ∷ es) = frames-few es
 
 -- ---- one call more
