@@ -19,7 +19,7 @@ pub record KeepRoom (n : ℕ) (cap d kept withdrawn : List ℕ) : Type 0 where
   pub withdrawn-room : n * n ≤ length withdrawn
 
 -- kept and withdrawn by the rule (0 fair, any other least), their further cells as before; kept is admissible, and at most D at each pair
-pub record Kept (n rule : ℕ) (cap d kept withdrawn kept' withdrawn' : List ℕ) : Type 0 where
+pub record KeptByRule (n rule : ℕ) (cap d kept withdrawn kept' withdrawn' : List ℕ) : Type 0 where
   pub fair : rule ≡ 0 → (take (n * n) kept' ≡ fairKept n cap d) × (take (n * n) withdrawn' ≡ replicate (n * n) 0)
   pub least : (rule ≡ 0 → ⊥) → (Greatest n cap d withdrawn') × (take (n * n) kept' ≡ keptFrom n cap d withdrawn')
   pub kept-rest : drop (n * n) kept' ≡ drop (n * n) kept

@@ -2,18 +2,19 @@
 use star::refusals::Refusal;
 use star::refusals::Verdict;
 ghost use mathlib.Core.Path.{_≡_};
-ghost use Rattle.planner.specs.Plans.{verdictOf, keptTotal, refusedTotal, changes};
+ghost use Rattle.planner.specs.Plans.{verdictOf, reportOf};
 
-// The two totals and the reconfigurations of an accepted call, or its refusal.
+// The figures of a plan: what all pairs keep, what is refused of the demand, and the reconfigurations.
+pub struct Report {
+    pub kept: u32,
+    pub refused: u32,
+    pub reconfigurations: u32,
+}
+
+// The report of an accepted call, or its refusal.
 pub enum Answer {
-    Planned {
-        kept: u32,
-        refused: u32,
-        reconfigurations: u32,
-    },
-    Refused {
-        refusal: Refusal,
-    },
+    Planned { report: Report },
+    Refused { refusal: Refusal },
 }
 
 // The verdict of an answer, which has its number and its place.
@@ -21,53 +22,21 @@ pub fn verdict(a: Answer) -> Verdict
     ensures { λ r. ⌜ r ≡ verdictOf a ⌝ }
 {
     match a {
-        Answer::Planned {
-            kept: _,
-            refused: _,
-            reconfigurations: _,
-        } => Verdict::Accepted,
+        Answer::Planned { report: _ } => Verdict::Accepted,
         Answer::Refused { refusal } => Verdict::Refused { refusal },
     }
 }
 
-// The kept total that an answer reports.
-pub fn kept_total(a: Answer) -> u32
-    ensures { λ r. ⌜ r ≡ keptTotal a ⌝ }
+// The report of an answer; a refusal's figures are 0.
+pub fn report(a: Answer) -> Report
+    ensures { λ r. ⌜ r ≡ reportOf a ⌝ }
 {
     match a {
-        Answer::Planned {
-            kept,
-            refused: _,
-            reconfigurations: _,
-        } => kept,
-        Answer::Refused { refusal: _ } => 0,
-    }
-}
-
-// The refused total that an answer reports.
-pub fn refused_total(a: Answer) -> u32
-    ensures { λ r. ⌜ r ≡ refusedTotal a ⌝ }
-{
-    match a {
-        Answer::Planned {
-            kept: _,
-            refused,
-            reconfigurations: _,
-        } => refused,
-        Answer::Refused { refusal: _ } => 0,
-    }
-}
-
-// The reconfigurations that an answer reports.
-pub fn reconfigured(a: Answer) -> u32
-    ensures { λ r. ⌜ r ≡ changes a ⌝ }
-{
-    match a {
-        Answer::Planned {
-            kept: _,
-            refused: _,
-            reconfigurations,
-        } => reconfigurations,
-        Answer::Refused { refusal: _ } => 0,
+        Answer::Planned { report } => report,
+        Answer::Refused { refusal: _ } => Report {
+            kept: 0,
+            refused: 0,
+            reconfigurations: 0,
+        },
     }
 }

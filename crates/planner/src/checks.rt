@@ -1,25 +1,36 @@
 // The checks of a plan, in document 01's order.
+use star::checks::demand_above;
+use star::checks::demand_short;
+use star::checks::known_rule;
 use star::checks::sizes;
-use star::lines::first_above;
 use star::refusals::Refusal;
 use star::refusals::Verdict;
 ghost use mathlib.Core.Path.{_≡_};
-ghost use Prim.Native.Nat.{_≤_};
-ghost use Rattle.planner.specs.Plans.{planShort, planVerdict};
+ghost use Rattle.star.specs.Checks.{Sizes};
+ghost use Rattle.planner.specs.Plans.{lentShortVerdict, planVerdict};
 
-// Whether any of the three tables that a plan writes is too short, given how many cells each has.
-pub fn plan_short(n: usize, l: usize, kept: usize, withdrawn: usize, schedule: usize) -> bool
-    requires { ⌜ (n ≤ 64) × (l ≤ 1024) ⌝ }
-    ensures { λ r. ⌜ r ≡ planShort n l kept withdrawn schedule ⌝ }
+// Any of the three tables that a plan writes too short (5), given how many cells each has.
+pub fn lent_short(n: usize, l: usize, kept: usize, withdrawn: usize, schedule: usize) -> Verdict
+    requires { ⌜ Sizes n l ⌝ }
+    ensures { λ v. ⌜ v ≡ lentShortVerdict n l kept withdrawn schedule ⌝ }
 {
     let cells = n * n;
     if kept < cells {
-        return true;
+        return Verdict::Refused {
+            refusal: Refusal::TableShort,
+        };
     }
     if withdrawn < cells {
-        return true;
+        return Verdict::Refused {
+            refusal: Refusal::TableShort,
+        };
     }
-    schedule < l * n
+    if schedule < l * n {
+        return Verdict::Refused {
+            refusal: Refusal::TableShort,
+        };
+    }
+    Verdict::Accepted
 }
 
 // Which refusal is given, if any; the last three numbers say how many cells kept, withdrawn and schedule have.
@@ -38,27 +49,18 @@ pub fn plan_verdict(
     let Verdict::Accepted = v else {
         return v;
     };
-    if rule > 1 {
-        return Verdict::Refused {
-            refusal: Refusal::Rule,
-        };
-    }
+    let v = known_rule(rule);
+    let Verdict::Accepted = v else {
+        return v;
+    };
     let n = nodes as usize;
-    if demand.len() < n * n {
-        return Verdict::Refused {
-            refusal: Refusal::DemandShort,
-        };
-    }
-    if plan_short(n, slots as usize, kept, withdrawn, schedule) {
-        return Verdict::Refused {
-            refusal: Refusal::TableShort,
-        };
-    }
-    let above = first_above(n, demand);
-    if above < n * n {
-        return Verdict::Refused {
-            refusal: Refusal::DemandAbove { cell: above as u32 },
-        };
-    }
-    v
+    let v = demand_short(n, demand.len());
+    let Verdict::Accepted = v else {
+        return v;
+    };
+    let v = lent_short(n, slots as usize, kept, withdrawn, schedule);
+    let Verdict::Accepted = v else {
+        return v;
+    };
+    demand_above(n, demand)
 }

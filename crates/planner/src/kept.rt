@@ -4,10 +4,10 @@ use star::tables::clear;
 ghost use mathlib.Core.Path.{_≡_};
 ghost use Rattle.star.specs.Tables.{Square, Demands};
 ghost use Rattle.star.specs.Lines.{total};
-ghost use Rattle.planner.specs.Kept.{KeepRoom, Kept};
+ghost use Rattle.planner.specs.Kept.{KeepRoom, KeptByRule};
 
 // Writes kept and withdrawn by the rule: 0 is the fair one, under which nothing is withdrawn, any other the least one.
-pub fn keep(
+pub fn keep_by_rule(
     n: usize,
     rule: u32,
     cap: &[u32],
@@ -16,7 +16,7 @@ pub fn keep(
     withdrawn: &mut [u32],
 )
     requires { ⌜ KeepRoom n (now cap) (now demand) (now kept) (now withdrawn) ⌝ }
-    ensures { λ _. ⌜ Kept n rule (now (cap .entry)) (now (demand .entry)) (now (kept .entry)) (now (withdrawn .entry)) (now (kept .exit)) (now (withdrawn .exit)) ⌝ }
+    ensures { λ _. ⌜ KeptByRule n rule (now (cap .entry)) (now (demand .entry)) (now (kept .entry)) (now (withdrawn .entry)) (now (kept .exit)) (now (withdrawn .exit)) ⌝ }
 {
     if rule == 0 {
         fair::cut(n, cap, demand, kept);

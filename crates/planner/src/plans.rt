@@ -1,17 +1,16 @@
 // The entry `plan`: what each pair keeps of its demand, and how the frame carries it.
 use crate::answers::Answer;
+use crate::answers::Report;
 use crate::checks::plan_verdict;
-use crate::kept::keep;
+use crate::kept::keep_by_rule;
 use crate::kept::total;
 use slots::placing::place;
 use star::refusals::Verdict;
-ghost use mathlib.Core.Path.{_≡_};
-ghost use Rattle.star.specs.declared.refusals.Verdict.the-variants.{Accepted};
 ghost use Rattle.star.specs.Lines.{wholeFrame};
-ghost use Rattle.planner.specs.Plans.{verdictOf, PlanRoom, Wrote, PlanResult};
+ghost use Rattle.planner.specs.Plans.{PlanRoomOn, PlanDoneOn, PlanOn};
 
-// The work of a plan, once all checks have passed: keeps by the rule, places what is kept, and reports the totals and the reconfigurations.
-fn write(
+// The work of a plan, once all checks have passed: keeps by the rule, places what is kept, and reports.
+fn write_plan(
     n: usize,
     l: usize,
     rule: u32,
@@ -20,15 +19,15 @@ fn write(
     kept: &mut [u32],
     withdrawn: &mut [u32],
     schedule: &mut [u8],
-) -> Answer
-    requires { ⌜ PlanRoom n l rule (now cap) (now demand) (now kept) (now withdrawn) (now schedule) ⌝ }
-    ensures { λ r. ⌜ (Wrote n l rule (now (cap .entry)) (now (demand .entry)) (now (kept .entry)) (now (withdrawn .entry)) (now (schedule .entry)) (now (kept .exit)) (now (withdrawn .exit)) (now (schedule .exit)) r) × (verdictOf r ≡ Accepted) ⌝ }
+) -> Report
+    requires { ⌜ PlanRoomOn n l rule (now cap) (now demand) (now kept) (now withdrawn) (now schedule) ⌝ }
+    ensures { λ r. ⌜ PlanDoneOn n l rule (now (cap .entry)) (now (demand .entry)) (now (kept .entry)) (now (withdrawn .entry)) (now (schedule .entry)) (now (kept .exit)) (now (withdrawn .exit)) (now (schedule .exit)) r ⌝ }
 {
-    keep(n, rule, cap, demand, kept, withdrawn);
+    keep_by_rule(n, rule, cap, demand, kept, withdrawn);
     let switched = place(n, l, kept, schedule);
     let all = total(n, demand);
     let carried = total(n, kept);
-    Answer::Planned {
+    Report {
         kept: carried,
         refused: all - carried,
         reconfigurations: switched,
@@ -44,14 +43,14 @@ pub fn write_whole(
     kept: &mut [u32],
     withdrawn: &mut [u32],
     schedule: &mut [u8],
-) -> Answer
-    requires { ⌜ PlanRoom nodes slots rule (wholeFrame nodes slots) (now demand) (now kept) (now withdrawn) (now schedule) ⌝ }
-    ensures { λ r. ⌜ (Wrote nodes slots rule (wholeFrame nodes slots) (now (demand .entry)) (now (kept .entry)) (now (withdrawn .entry)) (now (schedule .entry)) (now (kept .exit)) (now (withdrawn .exit)) (now (schedule .exit)) r) × (verdictOf r ≡ Accepted) ⌝ }
+) -> Report
+    requires { ⌜ PlanRoomOn nodes slots rule (wholeFrame nodes slots) (now demand) (now kept) (now withdrawn) (now schedule) ⌝ }
+    ensures { λ r. ⌜ PlanDoneOn nodes slots rule (wholeFrame nodes slots) (now (demand .entry)) (now (kept .entry)) (now (withdrawn .entry)) (now (schedule .entry)) (now (kept .exit)) (now (withdrawn .exit)) (now (schedule .exit)) r ⌝ }
 {
     let cap = [slots; 128];
     let n = nodes as usize;
     let lines = 2 * n;
-    write(
+    write_plan(
         n,
         slots as usize,
         rule,
@@ -63,8 +62,8 @@ pub fn write_whole(
     )
 }
 
-// The slots that each pair keeps, and how the frame carries them: kept and withdrawn have N×N cells, the schedule L×N bytes. Refused, in
-// this order: N (1), L (2), the rule (3), a short demand (4), a short table (5), a demand above 65,535 (6); then nothing is written.
+// The slots that each pair keeps, and how the frame carries them: kept and withdrawn have N×N cells, the schedule L×N bytes. A refusal, in the
+// order of `planNotice`, writes nothing.
 pub fn plan(
     nodes: u32,
     slots: u32,
@@ -74,7 +73,7 @@ pub fn plan(
     withdrawn: &mut [u32],
     schedule: &mut [u8],
 ) -> Answer
-    ensures { λ r. ⌜ PlanResult nodes slots rule (now (demand .entry)) (now (kept .entry)) (now (withdrawn .entry)) (now (schedule .entry)) (now (kept .exit)) (now (withdrawn .exit)) (now (schedule .exit)) r ⌝ }
+    ensures { λ r. ⌜ PlanOn nodes slots rule (now (demand .entry)) (now (kept .entry)) (now (withdrawn .entry)) (now (schedule .entry)) (now (kept .exit)) (now (withdrawn .exit)) (now (schedule .exit)) r ⌝ }
 {
     let v = plan_verdict(
         nodes,
@@ -88,5 +87,6 @@ pub fn plan(
     if let Verdict::Refused { refusal } = v {
         return Answer::Refused { refusal: refusal };
     }
-    write_whole(nodes, slots, rule, demand, kept, withdrawn, schedule)
+    let report = write_whole(nodes, slots, rule, demand, kept, withdrawn, schedule);
+    Answer::Planned { report: report }
 }

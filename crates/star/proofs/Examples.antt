@@ -14,8 +14,8 @@ use Rattle.sums.specs.Tables.{cell, tab, square}
 use Rattle.star.specs.declared.refusals.Refusal.the-variants.{Nodes, Slots, Rule, DemandShort, TableShort, DemandAbove, QueueLimit, BooksDisagree, CallsSpent, BadFile}
 use Rattle.star.specs.declared.refusals.Verdict.the-variants.{Accepted, Refused}
 use Rattle.star.specs.Lines.{sourceOn, destinationOn, onLine, lineSum, total, wholeFrame, slack, overflows, excess, critical, Admissible}
-use Rattle.star.specs.Refusals.{refusalNumber, refusalPlace, verdictNumber, verdictPlace, refuse, nodesOut, slotsOut, ruleOut, limitOut, short, spent, someCell, firstAbove}
-use Rattle.star.specs.Checks.{sizesVerdict, rangesVerdict}
+use Rattle.star.specs.Refusals.{refusalNumber, refusalPlace, verdictNumber, verdictPlace, refuse, then, nodesOut, slotsOut, ruleOut, limitOut, short, spent, someCell, firstAbove}
+use Rattle.star.specs.Checks.{sizesVerdict, ruleVerdict, settingsVerdict, rangesVerdict, demandShortVerdict, demandAboveVerdict}
 use Rattle.star.specs.Schedules.{ConflictFree, count, refusedBy, differ, reconfigurations}
 
 -- ---- what is refused
@@ -60,7 +60,7 @@ calls-range : map spent (0 ∷ 999999 ∷ 1000000 ∷ 4294967295 ∷ []) ≡ fal
 calls-range = refl
 
 -- one cell too few, just enough, and longer than needed
-short-range : map (λ room. short room 4) (3 ∷ 4 ∷ 5 ∷ []) ≡ true ∷ false ∷ false ∷ []
+short-range : map (λ cells. short cells 4) (3 ∷ 4 ∷ 5 ∷ []) ≡ true ∷ false ∷ false ∷ []
 short-range = refl
 
 -- a bad cell among the first four: the last of them, and none
@@ -80,13 +80,33 @@ sizes-accepted = refl
 -- The checks run in the order 1, 2, 3, 7: the first of two neighbours is given, and B 0 with rule 2 is 3.
 ranges-order :
     map verdictNumber (rangesVerdict 0 0 2 0 ∷ rangesVerdict 1 0 2 0 ∷ rangesVerdict 1 1 2 0 ∷ rangesVerdict 1 1 1 0 ∷ rangesVerdict 1 1 0 65536 ∷ []) ≡ 1 ∷ 2 ∷ 3 ∷ 7 ∷ 7 ∷ []
-unfolding rangesVerdict refuse
+unfolding rangesVerdict settingsVerdict ruleVerdict sizesVerdict then refuse
 ranges-order = refl
 
 -- both ends of all ranges
 ranges-accepted : rangesVerdict 1 1 0 1 ∷ rangesVerdict 64 1024 1 65535 ∷ [] ≡ Accepted ∷ Accepted ∷ []
-unfolding rangesVerdict refuse
+unfolding rangesVerdict settingsVerdict ruleVerdict sizesVerdict then refuse
 ranges-accepted = refl
+
+-- Groups after each other: the first refusal is given, and what has passed leaves it to the later group.
+groups-order : then (Refused Rule) (Refused Slots) ∷ then Accepted (Refused Slots) ∷ then (Refused Rule) Accepted ∷ then Accepted Accepted ∷ [] ≡ Refused Rule ∷ Refused Slots ∷ Refused Rule ∷ Accepted ∷ []
+unfolding then
+groups-order = refl
+
+-- 3 alone, at both ends
+rule-order : ruleVerdict 0 ∷ ruleVerdict 1 ∷ ruleVerdict 2 ∷ [] ≡ Accepted ∷ Accepted ∷ Refused Rule ∷ []
+unfolding ruleVerdict refuse
+rule-order = refl
+
+-- 4: one cell too few, and just enough
+demand-short : demandShortVerdict 2 3 ∷ demandShortVerdict 2 4 ∷ [] ≡ Refused DemandShort ∷ Accepted ∷ []
+unfolding demandShortVerdict refuse
+demand-short = refl
+
+-- 6: the first cell above, and none
+demand-above : demandAboveVerdict 2 (0 ∷ 65536 ∷ 0 ∷ 65536 ∷ []) ∷ demandAboveVerdict 1 (65535 ∷ 65536 ∷ []) ∷ [] ≡ Refused (DemandAbove 1) ∷ Accepted ∷ []
+unfolding demandAboveVerdict refuse firstAbove firstBelow firstFrom
+demand-above = refl
 
 -- One demand or arrival is 0 to 65,535: four cells of 65,535 have no bad one.
 above-none : firstAbove 2 (65535 ∷ 65535 ∷ 65535 ∷ 65535 ∷ []) ≡ 4

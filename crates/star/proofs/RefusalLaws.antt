@@ -1,9 +1,9 @@
--- Checks in their order: one that fires gives its refusal, one that does not leaves it to the later ones. And read backwards: what an accepted
--- call has passed, and what a chain gives once its first checks are known. The laws assume nothing.
+-- Checks in their order: one that fires gives its refusal, one that does not leaves it to the later ones; groups of them likewise. And read
+-- backwards: what an accepted call has passed. The laws assume nothing.
 use Prim.Native.Nat.{ℕ, _*_, _≤_, _<_}
 use native.Mathlib.Nat.{le-of-eq}
 use native.Mathlib.Omega.{arith}
-use mathlib.Core.Path.{_≡_, refl, sym, _∙_}
+use mathlib.Core.Path.{_≡_, refl, sym, _∙_, ap}
 use mathlib.Core.Bool.{Bool, true, false, _||_}
 use mathlib.Core.List.{List}
 use lib.ListN.{getD}
@@ -15,8 +15,8 @@ use Rattle.star.specs.declared.refusals.Refusal.the-variants.{Nodes, Slo
 use Rattle.star.specs.declared.refusals.Verdict.{Verdict}
 use Rattle.star.specs.declared.refusals.Verdict.the-variants.{Accepted, Refused}
 use Rattle.star.specs.Tables.{Demands}
-use Rattle.star.specs.Refusals.{Notice, noticeOf, check, refusalNumber, refusalPlace, refuse, outside, nodesOut, slotsOut, someCell, firstAboveIn, firstAbove}
-use Rattle.star.specs.Checks.{sizesVerdict, rangesThen, rangesVerdict, Ranges}
+use Rattle.star.specs.Refusals.{Notice, noticeOf, check, refusalNumber, refusalPlace, refuse, then, Promise, outside, someCell, firstAboveIn, firstAbove}
+use Rattle.star.specs.Checks.{sizesVerdict, ruleVerdict, settingsVerdict, rangesVerdict, demandShortVerdict, demandAboveVerdict, Sizes, Ranges}
 
 pub fires : {b : Bool} {r : Refusal} (later : Verdict) → b ≡ true → Refused r ≡ refuse b r later
 unfolding refuse
@@ -42,17 +42,45 @@ unfolding refuse
 passed true r later e = absurd (never e)
 passed false r later e = (refl, e)
 
--- a check that gives its refusal gives it whatever comes later
-pub still-fires : (b : Bool) (r : Refusal) {s : Refusal} {x y : Verdict} → (x ≡ Refused s → y ≡ Refused s) → refuse b r x ≡ Refused s → refuse b r y ≡ Refused s
-unfolding refuse
-still-fires true r f e = e
-still-fires false r f e = f e
+-- ---- groups of checks after each other
+-- a group that refuses is the answer ..
+pub then-stops : {v first : Verdict} {r : Refusal} (later : Verdict) → v ≡ first → v ≡ Refused r → v ≡ then first later
+unfolding then
+then-stops later is e = rw (sym is ∙ e) e
 
--- a check that is passed is passed whatever comes later
-pub still-passes : (b : Bool) (r : Refusal) {v x y : Verdict} → (x ≡ Accepted → v ≡ y) → refuse b r x ≡ Accepted → v ≡ refuse b r y
-unfolding refuse
-still-passes true r f e = absurd (never e)
-still-passes false r f e = f e
+-- .. and one that has passed leaves it to the later ones
+pub then-goes : {v w first later : Verdict} → v ≡ first → v ≡ Accepted → w ≡ later → w ≡ then first later
+unfolding then
+then-goes is e q = rw (sym is ∙ e) q
+
+-- an accepted call has passed the first ones, and the later ones
+pub then-passed : (first later : Verdict) → then first later ≡ Accepted → (first ≡ Accepted) × (later ≡ Accepted)
+unfolding then
+then-passed Accepted later e = (refl, e)
+then-passed (Refused r) later e = absurd (never e)
+
+-- a check of the first group, in numbers
+pub group-in-numbers : (b : Bool) (r : Refusal) (first later : Verdict) {rest : Notice} → noticeOf (then first later) ≡ rest →
+    noticeOf (then (refuse b r first) later) ≡ check b (refusalNumber r) (refusalPlace r) rest
+unfolding refuse check then
+group-in-numbers true r first later e = refl
+group-in-numbers false r first later e = e
+
+-- two checks that give one refusal are one
+pub either : (a b : Bool) (number place : ℕ) (later : Notice) → check a number place (check b number place later) ≡ check (a || b) number place later
+unfolding check
+either true b number place later = refl
+either false b number place later = refl
+
+-- ---- what an entry owes once its verdict is known
+module _ {v due : Verdict} {numbers : Notice} (is : v ≡ due) (told : noticeOf due ≡ numbers) {S : Type 0} {Done : Type 0} where
+  -- nothing changes after a refusal
+  pub promise-refused : {x : Refusal} (s : S) → v ≡ Refused x → Promise v due numbers s s Done
+  promise-refused s e = record { answer = is; notice = ap noticeOf is ∙ told; accepted = λ ok. absurd (never (sym e ∙ ok)); refused = λ y q. refl }
+
+  -- and what is accepted has been done
+  pub promise-done : (s s' : S) → v ≡ Accepted → Done → Promise v due numbers s s' Done
+  promise-done s s' ok done = record { answer = is; notice = ap noticeOf is ∙ told; accepted = λ _. done; refused = λ y q. absurd (never (sym q ∙ ok)) }
 
 -- ---- a number and its range
 pub too-low : (low high x : ℕ) → x < low → outside low high x ≡ true
@@ -79,77 +107,51 @@ pub inside : (low high x : ℕ) → low ≤ x → x ≤ high → outside low hig
 inside low high x p q = neither _ _ (le-ltb x low p) (le-ltb high x q)
 
 -- ---- 1, 2
--- N and L within their ranges
-pub record Sizes (n l : ℕ) : Type 0 where
-  pub some-nodes : 1 ≤ n
-  pub nodes : n ≤ 64
-  pub some-slots : 1 ≤ l
-  pub slots : l ≤ 1024
+-- numbers in their ranges pass ..
+pub sizes-fit : (n l : ℕ) → Sizes n l → Accepted ≡ sizesVerdict n l
+unfolding sizesVerdict
+sizes-fit n l s = passes Nodes (inside 1 64 n (s .some-nodes) (s .nodes)) (passes Slots (inside 1 1024 l (s .some-slots) (s .slots)) refl)
 
-module _ (n l : ℕ) where
-  -- numbers in their ranges pass
-  pub sizes-fit : {v later : Verdict} → Sizes n l → v ≡ later → v ≡ refuse (nodesOut n) Nodes (refuse (slotsOut l) Slots later)
-  sizes-fit s e = passes Nodes (inside 1 64 n (s .some-nodes) (s .nodes)) (passes Slots (inside 1 1024 l (s .some-slots) (s .slots)) e)
+-- .. and what has passed is in its range
+pub sized : (n l : ℕ) → sizesVerdict n l ≡ Accepted → Sizes n l
+unfolding sizesVerdict
+sized n l e =
+    let a = passed _ _ _ e in
+    let nodes = in-its-range 1 64 n (a .0) in
+    let slots = in-its-range 1 1024 l (passed _ _ _ (a .1) .0) in
+    record { some-nodes = nodes .0; nodes = nodes .1; some-slots = slots .0; slots = slots .1 }
 
-  pub sizes-fire : {s : Refusal} {v : Verdict} (later : Verdict) → v ≡ sizesVerdict n l → v ≡ Refused s → v ≡ refuse (nodesOut n) Nodes (refuse (slotsOut l) Slots later)
-  unfolding sizesVerdict
-  sizes-fire later is fired = fired ∙ sym (still-fires _ _ (still-fires _ _ (λ e. absurd (never (sym e)))) (sym is ∙ fired))
+-- ---- 3
+pub rule-fits : (rule : ℕ) → rule ≤ 1 → Accepted ≡ ruleVerdict rule
+unfolding ruleVerdict
+rule-fits rule known = passes Rule (le-ltb 1 rule known) refl
 
-  pub sizes-pass : {v w later : Verdict} → v ≡ sizesVerdict n l → v ≡ Accepted → w ≡ later → w ≡ refuse (nodesOut n) Nodes (refuse (slotsOut l) Slots later)
-  unfolding sizesVerdict
-  sizes-pass is accepted e = still-passes _ _ (still-passes _ _ (λ _. e)) (sym is ∙ accepted)
-
-  pub in-sizes : {later : Verdict} → refuse (nodesOut n) Nodes (refuse (slotsOut l) Slots later) ≡ Accepted → Sizes n l × (later ≡ Accepted)
-  in-sizes e =
-      let a = passed _ _ _ e in
-      let b = passed _ _ _ (a .1) in
-      let nodes = in-its-range 1 64 n (a .0) in
-      let slots = in-its-range 1 1024 l (b .0) in
-      (record { some-nodes = nodes .0; nodes = nodes .1; some-slots = slots .0; slots = slots .1 }, b .1)
-
-  pub sized : {v : Verdict} → v ≡ sizesVerdict n l → v ≡ Accepted → Sizes n l
-  unfolding sizesVerdict
-  sized is accepted = in-sizes (sym is ∙ accepted) .0
+pub ruled : (rule : ℕ) → ruleVerdict rule ≡ Accepted → rule ≤ 1
+unfolding ruleVerdict
+ruled rule e = ltb-false 1 rule (passed _ _ _ e .0)
 
 -- ---- 1, 2, 3, 7
-module _ (n l rule limit : ℕ) where
-  pub ranges-fire : {s : Refusal} {v : Verdict} (later : Verdict) → v ≡ rangesVerdict n l rule limit → v ≡ Refused s → v ≡ rangesThen n l rule limit later
-  unfolding rangesVerdict
-  ranges-fire later is fired =
-      fired ∙ sym (still-fires _ _ (still-fires _ _ (still-fires _ _ (still-fires _ _ (λ e. absurd (never (sym e)))))) (sym is ∙ fired))
+pub ranges-fit : (n l rule limit : ℕ) → Ranges n l rule limit → Accepted ≡ rangesVerdict n l rule limit
+unfolding rangesVerdict settingsVerdict
+ranges-fit n l rule limit r =
+    then-goes (sizes-fit n l (r .sizes)) refl (then-goes (rule-fits rule (r .known-rule)) refl (passes QueueLimit (inside 1 65535 limit (r .some-limit) (r .known-limit)) refl))
 
-  pub ranges-pass : {v w later : Verdict} → v ≡ rangesVerdict n l rule limit → v ≡ Accepted → w ≡ later → w ≡ rangesThen n l rule limit later
-  unfolding rangesVerdict
-  ranges-pass is accepted e = still-passes _ _ (still-passes _ _ (still-passes _ _ (still-passes _ _ (λ _. e)))) (sym is ∙ accepted)
+pub ranged : (n l rule limit : ℕ) → rangesVerdict n l rule limit ≡ Accepted → Ranges n l rule limit
+unfolding rangesVerdict settingsVerdict
+ranged n l rule limit e =
+    let a = then-passed _ _ e in
+    let b = then-passed _ _ (a .1) in
+    let queue = in-its-range 1 65535 limit (passed _ _ _ (b .1) .0) in
+    record { sizes = sized n l (a .0); known-rule = ruled rule (b .0); some-limit = queue .0; known-limit = queue .1 }
 
-  -- numbers in their ranges pass
-  pub ranges-fit : {v later : Verdict} → Ranges n l rule limit → v ≡ later → v ≡ rangesThen n l rule limit later
-  ranges-fit r e =
-      sizes-fit n l (record { some-nodes = r .some-nodes; nodes = r .nodes; some-slots = r .some-slots; slots = r .slots })
-      (passes Rule (le-ltb 1 rule (r .known-rule)) (passes QueueLimit (inside 1 65535 limit (r .some-room) (r .room)) e))
+-- ---- 4
+pub demand-fits : (n cells : ℕ) → n * n ≤ cells → Accepted ≡ demandShortVerdict n cells
+unfolding demandShortVerdict
+demand-fits n cells h = passes _ (le-ltb _ _ h) refl
 
-  pub in-ranges : {later : Verdict} → rangesThen n l rule limit later ≡ Accepted →
-      (Ranges n l rule limit) × (later ≡ Accepted)
-  in-ranges e =
-      let a = in-sizes n l e in
-      let c = passed _ _ _ (a .1) in
-      let d = passed _ _ _ (c .1) in
-      let room = in-its-range 1 65535 limit (d .0) in (
-        record {
-          some-nodes = a .0 .some-nodes;
-          nodes = a .0 .nodes;
-          some-slots = a .0 .some-slots;
-          slots = a .0 .slots;
-          known-rule = ltb-false 1 rule (c .0);
-          some-room = room .0;
-          room = room .1;
-        },
-        d .1,
-      )
-
-  pub ranged : {v : Verdict} → v ≡ rangesVerdict n l rule limit → v ≡ Accepted → Ranges n l rule limit
-  unfolding rangesVerdict
-  ranged is accepted = in-ranges (sym is ∙ accepted) .0
+pub long-demand : (n cells : ℕ) → demandShortVerdict n cells ≡ Accepted → n * n ≤ cells
+unfolding demandShortVerdict
+long-demand n cells e = ltb-false _ _ (passed _ _ _ e .0)
 
 -- ---- where no cell is above 65,535, each is within its range
 pub each-within : (count : ℕ) (cells : List ℕ) → count ≤ firstAboveIn count cells → (p : ℕ) → p < count → getD cells p 0 ≤ 65535
@@ -167,3 +169,12 @@ none-above-in count cells most =
 pub none-above : (n : ℕ) (d : List ℕ) → ((p : ℕ) → p < n * n → getD d p 0 ≤ 65535) → someCell (n * n) (firstAbove n d) ≡ false
 unfolding firstAbove
 none-above n d most = none-above-in (n * n) d most
+
+-- ---- 6
+pub demand-within : (n : ℕ) (d : List ℕ) → Demands n d → Accepted ≡ demandAboveVerdict n d
+unfolding demandAboveVerdict
+demand-within n d h = passes _ (none-above n d (h .most)) refl
+
+pub within : (n : ℕ) (d : List ℕ) → demandAboveVerdict n d ≡ Accepted → Demands n d
+unfolding demandAboveVerdict
+within n d e = within-range n d (ltb-false _ _ (passed _ _ _ e .0))

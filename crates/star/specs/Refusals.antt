@@ -1,5 +1,6 @@
 -- What is refused: each refusal's number and place, and when it fires.
 use Prim.Native.Nat.{ℕ, _*_}
+use mathlib.Core.Path.{_≡_}
 use mathlib.Core.Bool.{Bool, true, false, _||_}
 use mathlib.Core.List.{List}
 use lib.ListN.{getD}
@@ -71,6 +72,19 @@ unfoldable pub refuse : Bool → Refusal → Verdict → Verdict
 refuse true r later = Refused r
 refuse false r later = later
 
+-- Groups of checks after each other: the later ones are made where the first ones have passed.
+unfoldable pub then : (first later : Verdict) → Verdict
+then Accepted later = later
+then (Refused r) later = Refused r
+
+-- What every entry promises, given the verdict that is due and its number and place, what may change, before and after the call, and what an
+-- accepted call has done: it gives that verdict, what it accepts is done, and a refusal leaves everything as before.
+pub record Promise {S : Type 0} (v due : Verdict) (numbers : Notice) (before after : S) (Done : Type 0) : Type 0 where
+  pub answer : v ≡ due
+  pub notice : noticeOf v ≡ numbers
+  pub accepted : v ≡ Accepted → Done
+  pub refused : (x : Refusal) → v ≡ Refused x → after ≡ before
+
 -- outside its range
 abbrev pub outside : (low high x : ℕ) → Bool
 outside low high x = ltb x low || ltb high x
@@ -91,9 +105,9 @@ ruleOut rule = ltb 1 rule
 abbrev pub limitOut : ℕ → Bool
 limitOut b = outside 1 65535 b
 
--- a table of `room` cells is shorter than needed
-abbrev pub short : (room needed : ℕ) → Bool
-short room needed = ltb room needed
+-- a table of so many cells is shorter than needed
+abbrev pub short : (cells needed : ℕ) → Bool
+short cells needed = ltb cells needed
 
 -- this kind of call already accepted 1,000,000 times or more
 abbrev pub spent : ℕ → Bool
