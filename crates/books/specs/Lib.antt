@@ -1,3 +1,4 @@
--- The books of a run's pairs, and what the work on a run's tables asks.
+-- The books of a run's pairs, what is made of a run's tables, and what the work on them asks.
 pub mod Books
+pub mod Queues
 pub mod Rooms

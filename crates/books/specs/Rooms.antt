@@ -12,10 +12,10 @@ pub record Tables (n : ℕ) (waiting posted sent dropped : List ℕ) : Type 0 wh
   pub drops : Square n dropped
 
 -- numbers that are added to 64-bit amounts, cell by cell
-pub record Adds (n : ℕ) (amounts more : List ℕ) : Type 0 where
+pub record Adds (n : ℕ) (amounts added : List ℕ) : Type 0 where
   pub room : Square n amounts
-  pub given : Square n more
-  pub fits : (p : ℕ) → p < n * n → getD amounts p 0 + getD more p 0 < 2 ^ 64
+  pub given : Square n added
+  pub fits : (p : ℕ) → p < n * n → getD amounts p 0 + getD added p 0 < 2 ^ 64
 
 -- arrivals at queues
 pub record Arrives (n : ℕ) (arrivals waiting : List ℕ) : Type 0 where

@@ -1,9 +1,9 @@
 // The tables of 64-bit amounts: what was posted, sent and dropped.
 ghost use mathlib.Core.Path.{_≡_};
-ghost use Prim.Native.Nat.{_+_, _*_, _<_};
-ghost use lib.ListN.{getD, replicate};
-ghost use Rattle.sums.specs.Tables.{cell, tab, written};
+ghost use Prim.Native.Nat.{_<_};
+ghost use Rattle.sums.specs.Tables.{cell};
 ghost use Rattle.star.specs.Tables.{Square};
+ghost use Rattle.books.specs.Queues.{zeroed, more};
 ghost use Rattle.books.specs.Rooms.{Adds};
 
 // The amount of the pair of source i and destination j.
@@ -18,7 +18,7 @@ pub fn amount(n: usize, amounts: &[u64], i: usize, j: usize) -> u64
 // Sets the amount of each pair to 0.
 pub fn clear(n: usize, amounts: &mut [u64])
     requires { ⌜ Square n (now amounts) ⌝ }
-    ensures { λ _. ⌜ now (amounts .exit) ≡ written (n * n) (replicate (n * n) 0) (now (amounts .entry)) ⌝ }
+    ensures { λ _. ⌜ now (amounts .exit) ≡ zeroed n (now (amounts .entry)) ⌝ }
 {
     let cells = n * n;
     let mut p = 0;
@@ -29,14 +29,14 @@ pub fn clear(n: usize, amounts: &mut [u64])
 }
 
 // Adds a number to the amount of each pair.
-pub fn add(n: usize, amounts: &mut [u64], more: &[u32])
-    requires { ⌜ Adds n (now amounts) (now more) ⌝ }
-    ensures { λ _. ⌜ now (amounts .exit) ≡ written (n * n) (tab (n * n) (λ p. getD (now (amounts .entry)) p 0 + getD (now (more .entry)) p 0)) (now (amounts .entry)) ⌝ }
+pub fn add(n: usize, amounts: &mut [u64], added: &[u32])
+    requires { ⌜ Adds n (now amounts) (now added) ⌝ }
+    ensures { λ _. ⌜ now (amounts .exit) ≡ more n (now (added .entry)) (now (amounts .entry)) ⌝ }
 {
     let cells = n * n;
     let mut p = 0;
     while p < cells {
-        amounts[p] = amounts[p] + more[p] as u64;
+        amounts[p] = amounts[p] + added[p] as u64;
         p += 1;
     }
 }

@@ -1,8 +1,7 @@
 // The queues: what arrives and finds room waits, what finds none is dropped, what is kept leaves.
 ghost use mathlib.Core.Path.{_≡_};
-ghost use Prim.Native.Nat.{_+_, _-_, _*_, _≤_, min};
-ghost use lib.ListN.{getD};
-ghost use Rattle.sums.specs.Tables.{tab, written};
+ghost use Prim.Native.Nat.{_+_, _-_, _≤_, min};
+ghost use Rattle.books.specs.Queues.{overflowed, queued, served};
 ghost use Rattle.books.specs.Rooms.{Arrives, Drops, Takes};
 
 // What waits in one queue after an arrival.
@@ -18,7 +17,7 @@ fn waits(limit: u32, waiting: u32, arrival: u32) -> u32
 }
 
 // What would lift one queue above the limit.
-fn exceeds(limit: u32, waiting: u32, arrival: u32) -> u32
+fn overflow(limit: u32, waiting: u32, arrival: u32) -> u32
     requires { ⌜ (waiting ≤ 65535) × (arrival ≤ 65535) ⌝ }
     ensures { λ r. ⌜ r ≡ waiting + arrival - limit ⌝ }
 {
@@ -32,12 +31,12 @@ fn exceeds(limit: u32, waiting: u32, arrival: u32) -> u32
 // Adds to dropped what would lift a queue above the limit.
 pub fn drop_excess(n: usize, limit: u32, arrivals: &[u32], waiting: &[u32], dropped: &mut [u64])
     requires { ⌜ Drops n (now arrivals) (now waiting) (now dropped) ⌝ }
-    ensures { λ _. ⌜ now (dropped .exit) ≡ written (n * n) (tab (n * n) (λ p. getD (now (dropped .entry)) p 0 + (getD (now (waiting .entry)) p 0 + getD (now (arrivals .entry)) p 0 - limit))) (now (dropped .entry)) ⌝ }
+    ensures { λ _. ⌜ now (dropped .exit) ≡ overflowed n limit (now (arrivals .entry)) (now (waiting .entry)) (now (dropped .entry)) ⌝ }
 {
     let cells = n * n;
     let mut p = 0;
     while p < cells {
-        dropped[p] = dropped[p] + exceeds(limit, waiting[p], arrivals[p]) as u64;
+        dropped[p] = dropped[p] + overflow(limit, waiting[p], arrivals[p]) as u64;
         p += 1;
     }
 }
@@ -45,7 +44,7 @@ pub fn drop_excess(n: usize, limit: u32, arrivals: &[u32], waiting: &[u32], drop
 // Adds to each queue what arrives, as far as the limit allows.
 pub fn enqueue(n: usize, limit: u32, arrivals: &[u32], waiting: &mut [u32])
     requires { ⌜ Arrives n (now arrivals) (now waiting) ⌝ }
-    ensures { λ _. ⌜ now (waiting .exit) ≡ written (n * n) (tab (n * n) (λ p. min (getD (now (waiting .entry)) p 0 + getD (now (arrivals .entry)) p 0) limit)) (now (waiting .entry)) ⌝ }
+    ensures { λ _. ⌜ now (waiting .exit) ≡ queued n limit (now (arrivals .entry)) (now (waiting .entry)) ⌝ }
 {
     let cells = n * n;
     let mut p = 0;
@@ -58,7 +57,7 @@ pub fn enqueue(n: usize, limit: u32, arrivals: &[u32], waiting: &mut [u32])
 // Takes from each queue what is kept of it.
 pub fn dequeue(n: usize, kept: &[u32], waiting: &mut [u32])
     requires { ⌜ Takes n (now kept) (now waiting) ⌝ }
-    ensures { λ _. ⌜ now (waiting .exit) ≡ written (n * n) (tab (n * n) (λ p. getD (now (waiting .entry)) p 0 - getD (now (kept .entry)) p 0)) (now (waiting .entry)) ⌝ }
+    ensures { λ _. ⌜ now (waiting .exit) ≡ served n (now (kept .entry)) (now (waiting .entry)) ⌝ }
 {
     let cells = n * n;
     let mut p = 0;

@@ -5,14 +5,15 @@ use mathlib.Core.Path.{_≡_, refl}
 use lib.ListN.{getD}
 use Rattle.sums.proofs.Tables.{mul-small}
 use Rattle.sums.proofs.Fills.{Filled, filled-none, filled-next, filled-more, filled-all}
+use Rattle.books.specs.Queues.{more}
 use Rattle.books.proofs.amounts.add.Statement.{statement}
 use Rattle.books.proofs.amounts.add.Tie as tie
 
 abbrev Inv-loop : tie.InvT-loop
-Inv-loop n amounts₀ more cells p₀ amounts p = (p ≤ n * n) × (cells ≡ n * n) × Filled p (λ q. getD amounts₀ q 0 + getD more q 0) amounts₀ amounts
+Inv-loop n amounts₀ added cells p₀ amounts p = (p ≤ n * n) × (cells ≡ n * n) × Filled p (λ q. getD amounts₀ q 0 + getD added q 0) amounts₀ amounts
 
 abbrev μ-loop : tie.MeasureT-loop
-μ-loop n amounts₀ more cells p₀ amounts p = n * n - p
+μ-loop n amounts₀ added cells p₀ amounts p = n * n - p
 
 mul-cells : tie.Need-mul-cells Inv-loop μ-loop
 mul-cells c = omega (arith, mul-small (c .args .n) (c .args .n) (omega arith) (omega arith))
@@ -57,6 +58,7 @@ same-length : tie.Need-same-length Inv-loop μ-loop
 same-length c = c .before .loop .inv .2 .same-size
 
 returns : tie.Need-returns Inv-loop μ-loop
+unfolding more
 returns c = filled-all (c .before .before .args .n * c .before .before .args .n) (c .before .loop .inv .2) (omega arith)
 
 pub add-spec : {M : Type 1} → statement M

@@ -5,6 +5,7 @@ use mathlib.Core.Path.{_≡_, refl, ap, _∙_}
 use Rattle.sums.specs.Tables.{written}
 use Rattle.sums.proofs.Tables.{mul-small}
 use Rattle.sums.proofs.Fills.{Filled, filled-none, filled-more, filled-all, tab-same}
+use Rattle.books.specs.Queues.{zeroed}
 use Rattle.books.proofs.amounts.clear.Statement.{statement}
 use Rattle.books.proofs.amounts.clear.Tie as tie
 
@@ -39,6 +40,7 @@ same-length : tie.Need-same-length Inv-loop μ-loop
 same-length c = c .before .loop .inv .2 .same-size
 
 returns : tie.Need-returns Inv-loop μ-loop
+unfolding zeroed
 returns c = filled-all (c .before .before .args .n * c .before .before .args .n) (c .before .loop .inv .2) (omega arith) ∙ ap (λ x. written (c .before .before .args .n * c .before .before .args .n) x (c .before .before .args .amounts .now)) (tab-same (c .before .before .args .n * c .before .before .args .n) 0)
 
 pub clear-spec : {M : Type 1} → statement M

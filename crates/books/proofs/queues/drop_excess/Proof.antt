@@ -5,6 +5,7 @@ use mathlib.Core.Path.{_≡_, refl}
 use lib.ListN.{getD}
 use Rattle.sums.proofs.Tables.{mul-small}
 use Rattle.sums.proofs.Fills.{Filled, filled-none, filled-next, filled-more, filled-all}
+use Rattle.books.specs.Queues.{overflowed}
 use Rattle.books.proofs.queues.drop_excess.Statement.{statement}
 use Rattle.books.proofs.queues.drop_excess.Tie as tie
 
@@ -26,20 +27,20 @@ mul-dropped c = omega arith
 slice-read-dropped : tie.Need-slice-read-dropped Inv-loop μ-loop
 slice-read-dropped c = omega arith
 
-mul-exceeds : tie.Need-mul-exceeds Inv-loop μ-loop
-mul-exceeds c = omega arith
+mul-overflow : tie.Need-mul-overflow Inv-loop μ-loop
+mul-overflow c = omega arith
 
-shared-slice-read-exceeds : tie.Need-shared-slice-read-exceeds Inv-loop μ-loop
-shared-slice-read-exceeds c = omega arith
+shared-slice-read-overflow : tie.Need-shared-slice-read-overflow Inv-loop μ-loop
+shared-slice-read-overflow c = omega arith
 
-mul-exceeds-2 : tie.Need-mul-exceeds-2 Inv-loop μ-loop
-mul-exceeds-2 c = omega arith
+mul-overflow-2 : tie.Need-mul-overflow-2 Inv-loop μ-loop
+mul-overflow-2 c = omega arith
 
-shared-slice-read-exceeds-2 : tie.Need-shared-slice-read-exceeds-2 Inv-loop μ-loop
-shared-slice-read-exceeds-2 c = omega arith
+shared-slice-read-overflow-2 : tie.Need-shared-slice-read-overflow-2 Inv-loop μ-loop
+shared-slice-read-overflow-2 c = omega arith
 
-exceeds-requires : tie.Need-exceeds-requires Inv-loop μ-loop
-exceeds-requires c κs = (c .before .before .before .before .before .before .before .before .pre .arrives .queues .most _ (omega arith), c .before .before .before .before .before .before .before .before .pre .arrives .within .most _ (omega arith))
+overflow-requires : tie.Need-overflow-requires Inv-loop μ-loop
+overflow-requires c κs = (c .before .before .before .before .before .before .before .before .pre .arrives .queues .most _ (omega arith), c .before .before .before .before .before .before .before .before .pre .arrives .within .most _ (omega arith))
 
 cast-dropped : tie.Need-cast-dropped Inv-loop μ-loop
 cast-dropped c = omega arith
@@ -66,6 +67,7 @@ same-length : tie.Need-same-length Inv-loop μ-loop
 same-length c = c .before .loop .inv .2 .same-size
 
 returns : tie.Need-returns Inv-loop μ-loop
+unfolding overflowed
 returns c = filled-all (c .before .before .before .before .before .args .n * c .before .before .before .before .before .args .n) (c .before .loop .inv .2) (omega arith)
 
 pub drop-excess-spec : {M : Type 1} → statement M
@@ -78,11 +80,11 @@ drop-excess-spec =
     loop-holds
     mul-dropped
     slice-read-dropped
-    mul-exceeds
-    shared-slice-read-exceeds
-    mul-exceeds-2
-    shared-slice-read-exceeds-2
-    exceeds-requires
+    mul-overflow
+    shared-slice-read-overflow
+    mul-overflow-2
+    shared-slice-read-overflow-2
+    overflow-requires
     cast-dropped
     add-dropped
     mul-dropped-2
