@@ -1,36 +1,24 @@
--- The entries `fresh`, `post` and `frame`: which refusal each gives, in which order, and what the record and the tables then hold.
--- In each relation the record and the tables at entry come first, then the tables at exit (with a prime), then the answer.
-use Prim.Native.Nat.{ℕ, _+_, _-_, _*_, min}
+-- The entries `fresh`, `post` and `frame`: which refusal each gives, in which order, and what is held then.
+use Prim.Native.Nat.{ℕ, _*_}
 use mathlib.Core.Path.{_≡_}
-use mathlib.Core.Bool.{Bool, _||_}
+use mathlib.Core.Bool.{_||_}
 use mathlib.Core.List.{List}
-use lib.ListN.{length, getD, replicate}
-use Rattle.sums.specs.Tables.{tab, written}
-use Rattle.star.specs.declared.refusals.Refusal.{Refusal}
-use Rattle.star.specs.declared.refusals.Refusal.the-variants.{Nodes, Slots, Rule, DemandShort, TableShort, DemandAbove, QueueLimit, BooksDisagree, CallsSpent}
+use lib.ListN.{length}
 use Rattle.star.specs.declared.refusals.Verdict.{Verdict}
-use Rattle.star.specs.declared.refusals.Verdict.the-variants.{Accepted, Refused}
-use Rattle.star.specs.Refusals.{Notice, noticeOf, accepted, check, refuse, nodesOut, slotsOut, ruleOut, limitOut, short, spent, someCell, firstAbove}
+use Rattle.star.specs.Refusals.{Notice, accepted, check, then, Promise, nodesOut, slotsOut, ruleOut, limitOut, short, spent, someCell, firstAbove}
 use Rattle.star.specs.Lines.{wholeFrame}
+use Rattle.star.specs.Checks.{rangesVerdict, demandShortVerdict, demandAboveVerdict}
+use Rattle.planner.specs.declared.answers.Report.{Report}
 use Rattle.planner.specs.declared.answers.Answer.{Answer}
-use Rattle.planner.specs.Plans.{verdictOf, planShort, Wrote}
+use Rattle.planner.specs.Plans.{verdictOf, reportOf, Lent, lent, lentShort, lentShortVerdict, PlanDone}
 use Rattle.calls.specs.declared.record.Run.{Run}
-use Rattle.books.specs.Books.{firstDisagreeing}
+use Rattle.calls.specs.Held.{Held, held, afterFresh, afterPost, afterFrame}
+use Rattle.calls.specs.Checks.{heldShort, heldShortVerdict, disagreeing, agreementVerdict, countVerdict}
 
 -- ---- fresh
--- any of a run's four tables too short, given how many cells each has
-abbrev pub runShort : (n waiting posted sent dropped : ℕ) → Bool
-runShort n waiting posted sent dropped = short waiting (n * n) || short posted (n * n) || short sent (n * n) || short dropped (n * n)
-
--- Fresh 1, 2, 3, 7, 5.
+-- Fresh 1, 2, 3, 7 | 5; the last four numbers say how many cells each table has.
 unfoldable pub freshVerdict : (n l limit rule waiting posted sent dropped : ℕ) → Verdict
-freshVerdict n l limit rule waiting posted sent dropped =
-    refuse (nodesOut n) Nodes
-    (refuse (slotsOut l) Slots
-    (refuse (ruleOut rule) Rule
-    (refuse (limitOut limit) QueueLimit
-    (refuse (runShort n waiting posted sent dropped) TableShort
-    Accepted))))
+freshVerdict n l limit rule waiting posted sent dropped = then (rangesVerdict n l rule limit) (heldShortVerdict n waiting posted sent dropped)
 
 -- the same in document 01's numbers, each with its place
 unfoldable pub freshNotice : (n l limit rule waiting posted sent dropped : ℕ) → Notice
@@ -39,130 +27,93 @@ freshNotice n l limit rule waiting posted sent dropped =
     (check (slotsOut l) 2 0
     (check (ruleOut rule) 3 0
     (check (limitOut limit) 7 0
-    (check (runShort n waiting posted sent dropped) 5 0
+    (check (heldShort n waiting posted sent dropped) 5 0
     accepted))))
 
--- Fresh takes N, L, B and the rule, puts them in the record, and sets both counts to 0 ..
-unfoldable pub freshRun : (old : Run) (n l limit rule : ℕ) (v : Verdict) → Run
-freshRun old n l limit rule Accepted = record { nodes = n; slots = l; limit = limit; rule = rule; posts = 0; frames = 0 }
-freshRun old n l limit rule (Refused r) = old
-
--- .. and the N×N cells of waiting, posted, sent and dropped to 0.
-unfoldable pub cleared : (n : ℕ) (table : List ℕ) (v : Verdict) → List ℕ
-cleared n table Accepted = written (n * n) (replicate (n * n) 0) table
-cleared n table (Refused r) = table
-
--- what `fresh` promises of its answer and the four tables; `freshRun` says it of the record
-pub record Freshened (old : Run) (n l limit rule : ℕ) (waiting posted sent dropped waiting' posted' sent' dropped' : List ℕ) (v : Verdict) : Type 0 where
-  pub answer : v ≡ freshVerdict n l limit rule (length waiting) (length posted) (length sent) (length dropped)
-  pub notice : noticeOf v ≡ freshNotice n l limit rule (length waiting) (length posted) (length sent) (length dropped)
-  pub now-waiting : waiting' ≡ cleared n waiting v
-  pub now-posted : posted' ≡ cleared n posted v
-  pub now-sent : sent' ≡ cleared n sent v
-  pub now-dropped : dropped' ≡ cleared n dropped v
+-- what `fresh` promises
+abbrev pub Freshened : (n l limit rule : ℕ) (h h' : Held) (v : Verdict) → Type 0
+Freshened n l limit rule h h' v =
+    Promise v (freshVerdict n l limit rule (length (h .waiting)) (length (h .posted)) (length (h .sent)) (length (h .dropped)))
+    (freshNotice n l limit rule (length (h .waiting)) (length (h .posted)) (length (h .sent)) (length (h .dropped)))
+    h h' (h' ≡ afterFresh n l limit rule h)
 
 -- ---- post
--- Post and frame check and use the values in the record. Post 1, 2, 3, 7, 4, 5, 8, 9, 6.
-unfoldable pub postVerdict : (old : Run) (arrivals waiting posted sent dropped : List ℕ) → Verdict
-postVerdict old arrivals waiting posted sent dropped =
-    refuse (nodesOut (old .nodes)) Nodes
-    (refuse (slotsOut (old .slots)) Slots
-    (refuse (ruleOut (old .rule)) Rule
-    (refuse (limitOut (old .limit)) QueueLimit
-    (refuse (short (length arrivals) (old .nodes * old .nodes)) DemandShort
-    (refuse (runShort (old .nodes) (length waiting) (length posted) (length sent) (length dropped)) TableShort
-    (refuse (someCell (old .nodes * old .nodes) (firstDisagreeing (old .nodes) (old .limit) (old .posts) waiting posted sent dropped))
-    (BooksDisagree (firstDisagreeing (old .nodes) (old .limit) (old .posts) waiting posted sent dropped))
-    (refuse (spent (old .posts)) CallsSpent
-    (refuse (someCell (old .nodes * old .nodes) (firstAbove (old .nodes) arrivals)) (DemandAbove (firstAbove (old .nodes) arrivals))
-    Accepted))))))))
+-- Post and frame check and use the values in the record. Post 1, 2, 3, 7 | 4 | 5 | 8 | 9 | 6.
+unfoldable pub postVerdict : (arrivals : List ℕ) (h : Held) → Verdict
+postVerdict arrivals h =
+    then (rangesVerdict (h .run .nodes) (h .run .slots) (h .run .rule) (h .run .limit))
+    (then (demandShortVerdict (h .run .nodes) (length arrivals))
+    (then (heldShortVerdict (h .run .nodes) (length (h .waiting)) (length (h .posted)) (length (h .sent)) (length (h .dropped)))
+    (then (agreementVerdict h)
+    (then (countVerdict (h .run .posts))
+    (demandAboveVerdict (h .run .nodes) arrivals)))))
 
 -- the same in document 01's numbers, each with its place
-unfoldable pub postNotice : (old : Run) (arrivals waiting posted sent dropped : List ℕ) → Notice
-postNotice old arrivals waiting posted sent dropped =
-    check (nodesOut (old .nodes)) 1 0
-    (check (slotsOut (old .slots)) 2 0
-    (check (ruleOut (old .rule)) 3 0
-    (check (limitOut (old .limit)) 7 0
-    (check (short (length arrivals) (old .nodes * old .nodes)) 4 0
-    (check (runShort (old .nodes) (length waiting) (length posted) (length sent) (length dropped)) 5 0
-    (check (someCell (old .nodes * old .nodes) (firstDisagreeing (old .nodes) (old .limit) (old .posts) waiting posted sent dropped)) 8
-    (firstDisagreeing (old .nodes) (old .limit) (old .posts) waiting posted sent dropped)
-    (check (spent (old .posts)) 9 0
-    (check (someCell (old .nodes * old .nodes) (firstAbove (old .nodes) arrivals)) 6 (firstAbove (old .nodes) arrivals)
+unfoldable pub postNotice : (arrivals : List ℕ) (h : Held) → Notice
+postNotice arrivals h =
+    check (nodesOut (h .run .nodes)) 1 0
+    (check (slotsOut (h .run .slots)) 2 0
+    (check (ruleOut (h .run .rule)) 3 0
+    (check (limitOut (h .run .limit)) 7 0
+    (check (short (length arrivals) (h .run .nodes * h .run .nodes)) 4 0
+    (check (heldShort (h .run .nodes) (length (h .waiting)) (length (h .posted)) (length (h .sent)) (length (h .dropped))) 5 0
+    (check (someCell (h .run .nodes * h .run .nodes) (disagreeing h)) 8 (disagreeing h)
+    (check (spent (h .run .posts)) 9 0
+    (check (someCell (h .run .nodes * h .run .nodes) (firstAbove (h .run .nodes) arrivals)) 6 (firstAbove (h .run .nodes) arrivals)
     accepted))))))))
 
--- posts rises by 1
-unfoldable pub postRun : (old : Run) (v : Verdict) → Run
-postRun old Accepted = record { nodes = old .nodes; slots = old .slots; limit = old .limit; rule = old .rule; posts = old .posts + 1; frames = old .frames }
-postRun old (Refused r) = old
-
--- A post adds each arrival to posted ..
-unfoldable pub postPosted : (old : Run) (arrivals posted : List ℕ) (v : Verdict) → List ℕ
-postPosted old arrivals posted Accepted = written (old .nodes * old .nodes) (tab (old .nodes * old .nodes) (λ p. getD posted p 0 + getD arrivals p 0)) posted
-postPosted old arrivals posted (Refused r) = posted
-
--- .. what would lift waiting above B is added to dropped ..
-unfoldable pub postDropped : (old : Run) (arrivals waiting dropped : List ℕ) (v : Verdict) → List ℕ
-postDropped old arrivals waiting dropped Accepted =
-    written (old .nodes * old .nodes) (tab (old .nodes * old .nodes) (λ p. getD dropped p 0 + (getD waiting p 0 + getD arrivals p 0 - old .limit))) dropped
-postDropped old arrivals waiting dropped (Refused r) = dropped
-
--- .. and the rest to waiting.
-unfoldable pub postWaiting : (old : Run) (arrivals waiting : List ℕ) (v : Verdict) → List ℕ
-postWaiting old arrivals waiting Accepted =
-    written (old .nodes * old .nodes) (tab (old .nodes * old .nodes) (λ p. min (getD waiting p 0 + getD arrivals p 0) (old .limit))) waiting
-postWaiting old arrivals waiting (Refused r) = waiting
-
--- what `post` promises of its answer and the tables that it writes; `postRun` says it of the record
-pub record Posted (old : Run) (arrivals waiting posted sent dropped waiting' posted' dropped' : List ℕ) (v : Verdict) : Type 0 where
-  pub answer : v ≡ postVerdict old arrivals waiting posted sent dropped
-  pub notice : noticeOf v ≡ postNotice old arrivals waiting posted sent dropped
-  pub now-waiting : waiting' ≡ postWaiting old arrivals waiting v
-  pub now-posted : posted' ≡ postPosted old arrivals posted v
-  pub now-dropped : dropped' ≡ postDropped old arrivals waiting dropped v
+-- what `post` promises
+abbrev pub Posted : (arrivals : List ℕ) (h h' : Held) (v : Verdict) → Type 0
+Posted arrivals h h' v = Promise v (postVerdict arrivals h) (postNotice arrivals h) h h' (h' ≡ afterPost arrivals h)
 
 -- ---- frame
--- Frame 1, 2, 3, 7, 5, 8, 9; the last three numbers say how many cells kept, withdrawn and schedule have.
-unfoldable pub frameVerdict : (old : Run) (waiting posted sent dropped : List ℕ) (kept withdrawn schedule : ℕ) → Verdict
-frameVerdict old waiting posted sent dropped kept withdrawn schedule =
-    refuse (nodesOut (old .nodes)) Nodes
-    (refuse (slotsOut (old .slots)) Slots
-    (refuse (ruleOut (old .rule)) Rule
-    (refuse (limitOut (old .limit)) QueueLimit
-    (refuse
-    (runShort (old .nodes) (length waiting) (length posted) (length sent) (length dropped) || planShort (old .nodes) (old .slots) kept withdrawn schedule)
-    TableShort
-    (refuse (someCell (old .nodes * old .nodes) (firstDisagreeing (old .nodes) (old .limit) (old .posts) waiting posted sent dropped))
-    (BooksDisagree (firstDisagreeing (old .nodes) (old .limit) (old .posts) waiting posted sent dropped))
-    (refuse (spent (old .frames)) CallsSpent
-    Accepted))))))
+-- Frame 1, 2, 3, 7 | 5 | 5 | 8 | 9; the last three numbers say how many cells kept, withdrawn and schedule have.
+unfoldable pub frameVerdict : (h : Held) (kept withdrawn schedule : ℕ) → Verdict
+frameVerdict h kept withdrawn schedule =
+    then (rangesVerdict (h .run .nodes) (h .run .slots) (h .run .rule) (h .run .limit))
+    (then (heldShortVerdict (h .run .nodes) (length (h .waiting)) (length (h .posted)) (length (h .sent)) (length (h .dropped)))
+    (then (lentShortVerdict (h .run .nodes) (h .run .slots) kept withdrawn schedule)
+    (then (agreementVerdict h)
+    (countVerdict (h .run .frames)))))
 
 -- the same in document 01's numbers, each with its place
-unfoldable pub frameNotice : (old : Run) (waiting posted sent dropped : List ℕ) (kept withdrawn schedule : ℕ) → Notice
-frameNotice old waiting posted sent dropped kept withdrawn schedule =
-    check (nodesOut (old .nodes)) 1 0
-    (check (slotsOut (old .slots)) 2 0
-    (check (ruleOut (old .rule)) 3 0
-    (check (limitOut (old .limit)) 7 0
+unfoldable pub frameNotice : (h : Held) (kept withdrawn schedule : ℕ) → Notice
+frameNotice h kept withdrawn schedule =
+    check (nodesOut (h .run .nodes)) 1 0
+    (check (slotsOut (h .run .slots)) 2 0
+    (check (ruleOut (h .run .rule)) 3 0
+    (check (limitOut (h .run .limit)) 7 0
     (check
-    (runShort (old .nodes) (length waiting) (length posted) (length sent) (length dropped) || planShort (old .nodes) (old .slots) kept withdrawn schedule)
+    (heldShort (h .run .nodes) (length (h .waiting)) (length (h .posted)) (length (h .sent)) (length (h .dropped))
+    || lentShort (h .run .nodes) (h .run .slots) kept withdrawn schedule)
     5 0
-    (check (someCell (old .nodes * old .nodes) (firstDisagreeing (old .nodes) (old .limit) (old .posts) waiting posted sent dropped)) 8
-    (firstDisagreeing (old .nodes) (old .limit) (old .posts) waiting posted sent dropped)
-    (check (spent (old .frames)) 9 0
+    (check (someCell (h .run .nodes * h .run .nodes) (disagreeing h)) 8 (disagreeing h)
+    (check (spent (h .run .frames)) 9 0
     accepted))))))
 
--- frames rises by 1
-unfoldable pub frameRun : (old : Run) (v : Verdict) → Run
-frameRun old Accepted = record { nodes = old .nodes; slots = old .slots; limit = old .limit; rule = old .rule; posts = old .posts; frames = old .frames + 1 }
-frameRun old (Refused r) = old
+-- A frame plans with D = waiting and writes kept, withdrawn and schedule, each line with the whole frame; what is kept is sent.
+pub record FrameDone (k k' : Lent) (h h' : Held) (f : Report) : Type 0 where
+  pub plan : PlanDone (h .run .nodes) (h .run .slots) (h .run .rule) (wholeFrame (h .run .nodes) (h .run .slots)) (h .waiting) k k' f
+  pub after : h' ≡ afterFrame (k' .kept) h
 
--- A frame plans with D = waiting, writes kept, withdrawn and schedule, takes kept from waiting, adds it to sent. A refusal writes nothing.
-pub record Framed (old : Run) (waiting posted sent dropped kept withdrawn schedule waiting' sent' kept' withdrawn' schedule' : List ℕ) (r : Answer) : Type 0 where
-  pub answer : verdictOf r ≡ frameVerdict old waiting posted sent dropped (length kept) (length withdrawn) (length schedule)
-  pub notice : noticeOf (verdictOf r) ≡ frameNotice old waiting posted sent dropped (length kept) (length withdrawn) (length schedule)
-  pub accepted : verdictOf r ≡ Accepted → Wrote (old .nodes) (old .slots) (old .rule) (wholeFrame (old .nodes) (old .slots)) waiting kept withdrawn schedule kept' withdrawn' schedule' r
-  pub now-waiting : verdictOf r ≡ Accepted → waiting' ≡ written (old .nodes * old .nodes) (tab (old .nodes * old .nodes) (λ p. getD waiting p 0 - getD kept' p 0)) waiting
-  pub now-sent : verdictOf r ≡ Accepted → sent' ≡ written (old .nodes * old .nodes) (tab (old .nodes * old .nodes) (λ p. getD sent p 0 + getD kept' p 0)) sent
-  pub refused : (x : Refusal) → verdictOf r ≡ Refused x → (waiting' ≡ waiting) × (sent' ≡ sent) × (kept' ≡ kept) × (withdrawn' ≡ withdrawn) × (schedule' ≡ schedule)
+-- what `frame` promises
+abbrev pub Framed : (k k' : Lent) (h h' : Held) (r : Answer) → Type 0
+Framed k k' h h' r =
+    Promise (verdictOf r) (frameVerdict h (length (k .kept)) (length (k .withdrawn)) (length (k .schedule)))
+    (frameNotice h (length (k .kept)) (length (k .withdrawn)) (length (k .schedule)))
+    (h, k) (h', k') (FrameDone k k' h h' (reportOf r))
+
+-- ---- the same over the record and the lent tables one by one: first those at entry, then those at exit
+abbrev pub FreshOn : (n l limit rule : ℕ) (run : Run) (waiting posted sent dropped : List ℕ) (run' : Run) (waiting' posted' sent' dropped' : List ℕ) (v : Verdict) → Type 0
+FreshOn n l limit rule run waiting posted sent dropped run' waiting' posted' sent' dropped' v =
+    Freshened n l limit rule (held run waiting posted sent dropped) (held run' waiting' posted' sent' dropped') v
+
+-- a post changes nothing that was sent
+abbrev pub PostOn : (arrivals : List ℕ) (run : Run) (waiting posted sent dropped : List ℕ) (run' : Run) (waiting' posted' dropped' : List ℕ) (v : Verdict) → Type 0
+PostOn arrivals run waiting posted sent dropped run' waiting' posted' dropped' v =
+    Posted arrivals (held run waiting posted sent dropped) (held run' waiting' posted' sent dropped') v
+
+-- a frame changes nothing that was posted or dropped
+abbrev pub FrameOn : (run : Run) (waiting posted sent dropped kept withdrawn schedule : List ℕ) (run' : Run) (waiting' sent' kept' withdrawn' schedule' : List ℕ) (r : Answer) → Type 0
+FrameOn run waiting posted sent dropped kept withdrawn schedule run' waiting' sent' kept' withdrawn' schedule' r =
+    Framed (lent kept withdrawn schedule) (lent kept' withdrawn' schedule') (held run waiting posted sent dropped) (held run' waiting' posted sent' dropped) r

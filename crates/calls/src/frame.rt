@@ -1,19 +1,20 @@
 // What `frame` does: a frame is planned from the queues and sent.
-use crate::checks::books;
-use crate::checks::short;
+use crate::checks::agreement;
+use crate::checks::count_left;
+use crate::checks::held_short;
 use crate::record::Run;
 use books::amounts::add;
 use books::queues::dequeue;
 use planner::answers::Answer;
-use planner::checks::plan_short;
+use planner::checks::lent_short;
 use planner::plans::write_whole;
 use star::checks::ranges;
-use star::refusals::Refusal;
 use star::refusals::Verdict;
 ghost use mathlib.Core.Path.{_≡_};
 ghost use Prim.Native.Nat.{_<_};
-ghost use Rattle.star.specs.declared.refusals.Verdict.the-variants.{Accepted};
-ghost use Rattle.calls.specs.Runs.{frameVerdict, Framed, frameRun};
+ghost use Rattle.planner.specs.Plans.{verdictOf};
+ghost use Rattle.calls.specs.Held.{held, frameRun, recordAfter};
+ghost use Rattle.calls.specs.Runs.{frameVerdict, FrameOn};
 
 // Which refusal is given, if any; the last three numbers say how many cells kept, withdrawn and schedule have.
 fn frame_verdict(
@@ -26,36 +27,29 @@ fn frame_verdict(
     withdrawn: usize,
     schedule: usize,
 ) -> Verdict
-    ensures { λ v. ⌜ v ≡ frameVerdict old (now (waiting .entry)) (now (posted .entry)) (now (sent .entry)) (now (dropped .entry)) kept withdrawn schedule ⌝ }
+    ensures { λ v. ⌜ v ≡ frameVerdict (held old (now (waiting .entry)) (now (posted .entry)) (now (sent .entry)) (now (dropped .entry))) kept withdrawn schedule ⌝ }
 {
     let v = ranges(old.nodes, old.slots, old.rule, old.limit);
     let Verdict::Accepted = v else {
         return v;
     };
     let n = old.nodes as usize;
-    if short(n, waiting.len(), posted.len(), sent.len(), dropped.len()) {
-        return Verdict::Refused {
-            refusal: Refusal::TableShort,
-        };
-    }
-    if plan_short(n, old.slots as usize, kept, withdrawn, schedule) {
-        return Verdict::Refused {
-            refusal: Refusal::TableShort,
-        };
-    }
-    books(
-        n,
-        old.limit,
-        old.posts,
-        old.frames,
-        waiting,
-        posted,
-        sent,
-        dropped,
-    )
+    let v = held_short(n, waiting.len(), posted.len(), sent.len(), dropped.len());
+    let Verdict::Accepted = v else {
+        return v;
+    };
+    let v = lent_short(n, old.slots as usize, kept, withdrawn, schedule);
+    let Verdict::Accepted = v else {
+        return v;
+    };
+    let v = agreement(old, waiting, posted, sent, dropped);
+    let Verdict::Accepted = v else {
+        return v;
+    };
+    count_left(old.frames)
 }
 
-// A frame on the tables: what is answered, and what they hold then. The queues are planned, and what is kept leaves them.
+// A frame on the tables: what is answered, and what they hold then, beside the record that is to be.
 pub fn frame_on(
     old: Run,
     waiting: &mut [u32],
@@ -66,7 +60,7 @@ pub fn frame_on(
     withdrawn: &mut [u32],
     schedule: &mut [u8],
 ) -> Answer
-    ensures { λ r. ⌜ Framed old (now (waiting .entry)) (now (posted .entry)) (now (sent .entry)) (now (dropped .entry)) (now (kept .entry)) (now (withdrawn .entry)) (now (schedule .entry)) (now (waiting .exit)) (now (sent .exit)) (now (kept .exit)) (now (withdrawn .exit)) (now (schedule .exit)) r ⌝ }
+    ensures { λ r. ⌜ FrameOn old (now (waiting .entry)) (now (posted .entry)) (now (sent .entry)) (now (dropped .entry)) (now (kept .entry)) (now (withdrawn .entry)) (now (schedule .entry)) (recordAfter (verdictOf r) (frameRun old) old) (now (waiting .exit)) (now (sent .exit)) (now (kept .exit)) (now (withdrawn .exit)) (now (schedule .exit)) r ⌝ }
 {
     let v = frame_verdict(
         old,
@@ -81,7 +75,7 @@ pub fn frame_on(
     if let Verdict::Refused { refusal } = v {
         return Answer::Refused { refusal: refusal };
     }
-    let a = write_whole(
+    let report = write_whole(
         old.nodes,
         old.slots,
         old.rule,
@@ -93,13 +87,13 @@ pub fn frame_on(
     let n = old.nodes as usize;
     dequeue(n, kept, waiting);
     add(n, sent, kept);
-    a
+    Answer::Planned { report: report }
 }
 
 // How many frames the record counts after a frame that is accepted.
 pub fn frames_after(old: Run) -> u32
     requires { ⌜ old .frames < 1000000 ⌝ }
-    ensures { λ r. ⌜ r ≡ frameRun old Accepted .frames ⌝ }
+    ensures { λ r. ⌜ r ≡ frameRun old .frames ⌝ }
 {
     old.frames + 1
 }

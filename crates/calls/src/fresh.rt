@@ -1,14 +1,13 @@
 // What `fresh` does: a run starts.
-use crate::checks::short;
+use crate::checks::held_short;
 use crate::record::Run;
 use books::amounts;
 use star::checks::ranges;
-use star::refusals::Refusal;
 use star::refusals::Verdict;
 use star::tables;
 ghost use mathlib.Core.Path.{_≡_};
-ghost use Rattle.star.specs.declared.refusals.Verdict.the-variants.{Accepted};
-ghost use Rattle.calls.specs.Runs.{freshVerdict, Freshened, freshRun};
+ghost use Rattle.calls.specs.Held.{freshRun, recordAfter};
+ghost use Rattle.calls.specs.Runs.{freshVerdict, FreshOn};
 
 // Which refusal is given, if any; the last four numbers say how many cells the tables have.
 fn fresh_verdict(
@@ -27,15 +26,10 @@ fn fresh_verdict(
     let Verdict::Accepted = v else {
         return v;
     };
-    if short(nodes as usize, waiting, posted, sent, dropped) {
-        return Verdict::Refused {
-            refusal: Refusal::TableShort,
-        };
-    }
-    v
+    held_short(nodes as usize, waiting, posted, sent, dropped)
 }
 
-// A fresh start on the tables: what is answered, and what they hold then.
+// A fresh start on the tables: what is answered, and what they hold then, beside the record that is to be.
 pub fn fresh_on(
     old: Run,
     nodes: u32,
@@ -47,7 +41,7 @@ pub fn fresh_on(
     sent: &mut [u64],
     dropped: &mut [u64],
 ) -> Verdict
-    ensures { λ v. ⌜ Freshened old nodes slots limit rule (now (waiting .entry)) (now (posted .entry)) (now (sent .entry)) (now (dropped .entry)) (now (waiting .exit)) (now (posted .exit)) (now (sent .exit)) (now (dropped .exit)) v ⌝ }
+    ensures { λ v. ⌜ FreshOn nodes slots limit rule old (now (waiting .entry)) (now (posted .entry)) (now (sent .entry)) (now (dropped .entry)) (recordAfter v (freshRun nodes slots limit rule) old) (now (waiting .exit)) (now (posted .exit)) (now (sent .exit)) (now (dropped .exit)) v ⌝ }
 {
     let v = fresh_verdict(
         nodes,
@@ -70,9 +64,9 @@ pub fn fresh_on(
     v
 }
 
-// The record of a run that starts; what it held before does not matter.
+// The record of a run that starts.
 pub fn started(nodes: u32, slots: u32, limit: u32, rule: u32) -> Run
-    ensures { λ r. ⌜ ((old : Run) → r ≡ freshRun old nodes slots limit rule Accepted) ⌝ }
+    ensures { λ r. ⌜ r ≡ freshRun nodes slots limit rule ⌝ }
 {
     Run {
         nodes: nodes,

@@ -11,15 +11,10 @@ use Rattle.star.specs.declared.refusals.Verdict.{Verdict}
 use Rattle.star.specs.declared.refusals.Verdict.the-variants.{Accepted, Refused}
 use Rattle.star.specs.Schedules.{ConflictFree, count}
 use Rattle.planner.specs.declared.answers.Answer.{Answer}
-use Rattle.planner.specs.Plans.{verdictOf}
-use Rattle.books.specs.Books.{firstDisagreeing}
-use Rattle.run.specs.Held.{Held, LongEnough, FreshCall, PostCall, FrameCall}
-
--- the three tables lent to a frame
-pub record Lent : Type 0 where
-  pub kept : List ℕ
-  pub withdrawn : List ℕ
-  pub schedule : List ℕ
+use Rattle.planner.specs.Plans.{verdictOf, Lent}
+use Rattle.calls.specs.Held.{Held, LongEnough}
+use Rattle.calls.specs.Checks.{disagreeing}
+use Rattle.calls.specs.Runs.{Freshened, Posted, Framed}
 
 -- What happens to a run: a post of arrivals and its verdict; a frame with the tables lent to it, what they then hold, and its answer; or a fresh
 -- start with N, L, B and a rule that is refused, so that the run goes on.
@@ -34,16 +29,15 @@ outcome (posting arrivals v) = v
 outcome (framing lent plan r) = verdictOf r
 outcome (restarting n l limit rule x) = Refused x
 
--- An event takes what is held to what is held then, by the very relations that the contracts of `post`, `frame` and `fresh` cite.
+-- An event takes what is held to what is held then, by the very promises of `post`, `frame` and `fresh`.
 abbrev pub Happens : (e : Event) (h h' : Held) → Type 0
-Happens (posting arrivals v) h h' = PostCall arrivals h h' v
-Happens (framing lent plan r) h h' =
-    FrameCall (lent .kept) (lent .withdrawn) (lent .schedule) (plan .kept) (plan .withdrawn) (plan .schedule) h h' r
-Happens (restarting n l limit rule x) h h' = FreshCall n l limit rule h h' (Refused x)
+Happens (posting arrivals v) h h' = Posted arrivals h h' v
+Happens (framing lent plan r) h h' = Framed lent plan h h' r
+Happens (restarting n l limit rule x) h h' = Freshened n l limit rule h h' (Refused x)
 
 -- The events since the last accepted fresh start, with N, L, B and the rule, the latest first, and what is held after them.
 pub data History (n l limit rule : ℕ) : List Event → Held → Type 0 where
-  started : (h h' : Held) → FreshCall n l limit rule h h' Accepted → History n l limit rule [] h'
+  started : (h h' : Held) → Freshened n l limit rule h h' Accepted → History n l limit rule [] h'
   continued : (e : Event) (es : List Event) (h h' : Held) → History n l limit rule es h → Happens e h h' → History n l limit rule (e ∷ es) h'
 
 -- ---- what the events alone say of the pair of source i and destination j
@@ -114,7 +108,7 @@ pub record BooksHold (n l limit rule : ℕ) (es : List Event) (h : Held) : Type 
   -- the record keeps N, L, B and the rule, and counts the accepted posts and frames
   pub nodes : h .run .nodes ≡ n
   pub slots : h .run .slots ≡ l
-  pub room : h .run .limit ≡ limit
+  pub limits : h .run .limit ≡ limit
   pub rules : h .run .rule ≡ rule
   pub posts : h .run .posts ≡ postsOf es
   pub frames : h .run .frames ≡ framesOf es
@@ -128,7 +122,7 @@ pub record BooksHold (n l limit rule : ℕ) (es : List Event) (h : Held) : Type 
   pub dropped : (i j : ℕ) → i < n → j < n → cell n (h .dropped) i j ≡ exceeded n l limit es i j
   pub waiting : (i j : ℕ) → i < n → j < n → cell n (h .waiting) i j ≡ queue n l limit es i j
   -- the books of every pair agree, so that refusal 8 comes nowhere in the history
-  pub agree : firstDisagreeing n limit (h .run .posts) (h .waiting) (h .posted) (h .sent) (h .dropped) ≡ n * n
+  pub agree : disagreeing h ≡ n * n
   pub never-eight : (later earlier : List Event) (e : Event) (p : ℕ) → es ≡ later ++ e ∷ earlier → outcome e ≡ Refused (BooksDisagree p) → ⊥
   -- under the least rule every accepted frame sends as much of what waits as any conflict-free frame of L slots could
   pub most : rule ≡ 1 → (later earlier : List Event) (lent plan : Lent) (r : Answer) →

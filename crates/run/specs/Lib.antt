@@ -1,4 +1,3 @@
--- What the entries of a run promise, and what follows for whole runs.
-pub mod Held
+-- What follows from the promises of a run's entries, and what follows for whole runs.
 pub mod Theorems
 pub mod Histories

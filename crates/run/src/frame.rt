@@ -3,12 +3,10 @@ use calls::frame::frame_on;
 use calls::frame::frames_after;
 use calls::record::Run;
 use planner::answers::Answer;
-ghost use mathlib.Core.Path.{_≡_};
-ghost use Rattle.planner.specs.Plans.{verdictOf};
-ghost use Rattle.calls.specs.Runs.{Framed, frameRun};
+ghost use Rattle.calls.specs.Runs.{FrameOn};
 
-// Plans a frame with the queues as the demand, takes what is kept from waiting and adds it to sent; frames rises by 1. Refused, in this order:
-// N (1), L (2), the rule (3) or B (7) of the record, a short table (5), books that disagree (8), 1,000,000 frames (9); then nothing is written.
+// Plans a frame with the queues as the demand, takes what is kept from waiting and adds it to sent; frames rises by 1. A refusal, in the order of
+// `frameNotice`, writes nothing.
 pub fn frame(
     run: &mut Run,
     waiting: &mut [u32],
@@ -19,7 +17,7 @@ pub fn frame(
     withdrawn: &mut [u32],
     schedule: &mut [u8],
 ) -> Answer
-    ensures { λ r. ⌜ (Framed (now (run .entry)) (now (waiting .entry)) (now (posted .entry)) (now (sent .entry)) (now (dropped .entry)) (now (kept .entry)) (now (withdrawn .entry)) (now (schedule .entry)) (now (waiting .exit)) (now (sent .exit)) (now (kept .exit)) (now (withdrawn .exit)) (now (schedule .exit)) r) × (now (run .exit) ≡ frameRun (now (run .entry)) (verdictOf r)) ⌝ }
+    ensures { λ r. ⌜ FrameOn (now (run .entry)) (now (waiting .entry)) (now (posted .entry)) (now (sent .entry)) (now (dropped .entry)) (now (kept .entry)) (now (withdrawn .entry)) (now (schedule .entry)) (now (run .exit)) (now (waiting .exit)) (now (sent .exit)) (now (kept .exit)) (now (withdrawn .exit)) (now (schedule .exit)) r ⌝ }
 {
     let old = *run;
     let a = frame_on(
@@ -33,12 +31,7 @@ pub fn frame(
         schedule,
     );
     // A refused frame stores nothing: the record may lie in memory that cannot be written.
-    let Answer::Planned {
-        kept: _,
-        refused: _,
-        reconfigurations: _,
-    } = a
-    else {
+    let Answer::Planned { report: _ } = a else {
         return a;
     };
     run.frames = frames_after(old);

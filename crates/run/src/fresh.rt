@@ -3,11 +3,10 @@ use calls::fresh::fresh_on;
 use calls::fresh::started;
 use calls::record::Run;
 use star::refusals::Verdict;
-ghost use mathlib.Core.Path.{_≡_};
-ghost use Rattle.calls.specs.Runs.{Freshened, freshRun};
+ghost use Rattle.calls.specs.Runs.{FreshOn};
 
-// Starts a run: N, L, B and the rule go into the record, both counts and the first N * N cells of the four tables are 0. Refused, in this
-// order: N (1), L (2), the rule (3), B (7), a short table (5); then nothing is written.
+// Starts a run: N, L, B and the rule go into the record, both counts and the first N * N cells of the four tables are 0. A refusal, in the order of
+// `freshNotice`, writes nothing.
 pub fn fresh(
     run: &mut Run,
     nodes: u32,
@@ -19,7 +18,7 @@ pub fn fresh(
     sent: &mut [u64],
     dropped: &mut [u64],
 ) -> Verdict
-    ensures { λ v. ⌜ (Freshened (now (run .entry)) nodes slots limit rule (now (waiting .entry)) (now (posted .entry)) (now (sent .entry)) (now (dropped .entry)) (now (waiting .exit)) (now (posted .exit)) (now (sent .exit)) (now (dropped .exit)) v) × (now (run .exit) ≡ freshRun (now (run .entry)) nodes slots limit rule v) ⌝ }
+    ensures { λ v. ⌜ FreshOn nodes slots limit rule (now (run .entry)) (now (waiting .entry)) (now (posted .entry)) (now (sent .entry)) (now (dropped .entry)) (now (run .exit)) (now (waiting .exit)) (now (posted .exit)) (now (sent .exit)) (now (dropped .exit)) v ⌝ }
 {
     let old = *run;
     let v = fresh_on(
