@@ -1,13 +1,14 @@
--- A table that was made anew: what each pair's cell holds, that it has a cell for each pair and is as long as before, and that two made alike are
--- alike. Assumes nothing.
+-- A table that was made anew: what each pair's cell holds, that it is as long as before, and that two made of what is alike are alike. Assumes
+-- nothing.
 use Prim.Native.Nat.{ℕ, _+_, _-_, _*_, _≤_, _<_, min}
-use mathlib.Core.Path.{_≡_, sym, _∙_, ap}
+use mathlib.Core.Path.{_≡_, refl, sym, _∙_, ap}
 use mathlib.Core.List.{List}
 use lib.ListN.{length, getD}
 use Rattle.sums.specs.Tables.{cell, tab, written}
 use Rattle.sums.proofs.Tables.{cell-lt, length-tab, tab-at, tab-ext, written-at, written-first, written-room, written-length}
 use Rattle.sums.proofs.Fills.{tab-same}
 use Rattle.star.specs.Tables.{Alike}
+use Rattle.star.proofs.AlikeLaws.{alike-at}
 use Rattle.books.specs.Queues.{zeroed, renewed, more, overflowed, queued, served}
 
 module _ (n : ℕ) (f : ℕ → ℕ) (old : List ℕ) where
@@ -38,6 +39,49 @@ renewed-alike n f g x y same = record {
 pub zeroed-renewed : (n : ℕ) (table : List ℕ) → zeroed n table ≡ renewed n (λ p. 0) table
 unfolding zeroed
 zeroed-renewed n table = ap (λ new. written (n * n) new table) (sym (tab-same (n * n) 0))
+
+-- ---- each table's change: as long as before, where it has a cell for each pair
+module _ (n : ℕ) where
+  pub zeroed-length : (table : List ℕ) → n * n ≤ length table → length (zeroed n table) ≡ length table
+  zeroed-length table h = ap length (zeroed-renewed n table) ∙ renewed-length n (λ p. 0) table h
+
+  pub more-length : (added : List ℕ) (amounts : List ℕ) → n * n ≤ length amounts → length (more n added amounts) ≡ length amounts
+  unfolding more
+  more-length added amounts h = renewed-length n _ amounts h
+
+  pub overflowed-length : (limit : ℕ) (arrivals waiting : List ℕ) (dropped : List ℕ) → n * n ≤ length dropped → length (overflowed n limit arrivals waiting dropped) ≡ length dropped
+  unfolding overflowed
+  overflowed-length limit arrivals waiting dropped h = renewed-length n _ dropped h
+
+  pub queued-length : (limit : ℕ) (arrivals : List ℕ) (waiting : List ℕ) → n * n ≤ length waiting → length (queued n limit arrivals waiting) ≡ length waiting
+  unfolding queued
+  queued-length limit arrivals waiting h = renewed-length n _ waiting h
+
+  pub served-length : (kept : List ℕ) (waiting : List ℕ) → n * n ≤ length waiting → length (served n kept waiting) ≡ length waiting
+  unfolding served
+  served-length kept waiting h = renewed-length n _ waiting h
+
+-- ---- what is made of tables that are alike is alike
+module _ (n : ℕ) where
+  pub zeroed-alike : (x y : List ℕ) → Alike (n * n) (zeroed n x) (zeroed n y)
+  zeroed-alike x y = rw (zeroed-renewed n x, zeroed-renewed n y) (renewed-alike n (λ p. 0) (λ p. 0) x y (λ p h. refl))
+
+  module _ {a b : List ℕ} (given : Alike (n * n) a b) {x y : List ℕ} (old : Alike (n * n) x y) where
+    pub more-alike : Alike (n * n) (more n a x) (more n b y)
+    unfolding more
+    more-alike = renewed-alike n _ _ x y (λ p h. rw (alike-at old p h, alike-at given p h) refl)
+
+    pub queued-alike : (limit : ℕ) → Alike (n * n) (queued n limit a x) (queued n limit b y)
+    unfolding queued
+    queued-alike limit = renewed-alike n _ _ x y (λ p h. rw (alike-at old p h, alike-at given p h) refl)
+
+    pub served-alike : Alike (n * n) (served n a x) (served n b y)
+    unfolding served
+    served-alike = renewed-alike n _ _ x y (λ p h. rw (alike-at old p h, alike-at given p h) refl)
+
+    pub overflowed-alike : (limit : ℕ) {d e : List ℕ} → Alike (n * n) d e → Alike (n * n) (overflowed n limit a x d) (overflowed n limit b y e)
+    unfolding overflowed
+    overflowed-alike limit {d} {e} dropped = renewed-alike n _ _ d e (λ p h. rw (alike-at dropped p h, alike-at old p h, alike-at given p h) refl)
 
 -- ---- each table's change, pair by pair
 module _ (n : ℕ) (i j : ℕ) (hi : i < n) (hj : j < n) where

@@ -5,15 +5,21 @@ use mathlib.Core.Path.{_≡_, refl}
 use mathlib.Core.List.{List, [], _∷_}
 use Rattle.sums.specs.Searches.{firstBelow, firstFrom}
 use Rattle.sums.specs.Tables.{tab, written}
-use Rattle.star.specs.declared.refusals.Verdict.the-variants.{Accepted}
-use Rattle.star.specs.Refusals.{Notice, notice, noticeOf, refuse, firstAbove}
+use Rattle.star.specs.declared.refusals.Refusal.the-variants.{Rule}
+use Rattle.star.specs.declared.refusals.Verdict.the-variants.{Accepted, Refused}
+use Rattle.star.specs.Refusals.{Notice, notice, noticeOf, refuse, then, firstAbove}
+use Rattle.star.specs.Checks.{sizesVerdict, ruleVerdict, settingsVerdict, rangesVerdict, demandShortVerdict, demandAboveVerdict}
+use Rattle.planner.specs.Plans.{lentShortVerdict}
 use Rattle.books.specs.Books.{booksAgree, firstDisagreeing}
+use Rattle.books.specs.Queues.{zeroed, more, overflowed, queued, served}
 use Rattle.calls.specs.declared.record.Run.{Run}
-use Rattle.calls.specs.Runs.{freshVerdict, freshRun, cleared, postVerdict, postRun, postPosted, postDropped, postWaiting, frameVerdict, frameRun}
+use Rattle.calls.specs.Held.{Held, held, afterFresh, afterPost, afterFrame, recordAfter}
+use Rattle.calls.specs.Checks.{heldShortVerdict, agreementVerdict, countVerdict}
+use Rattle.calls.specs.Runs.{freshVerdict, postVerdict, frameVerdict}
 
 -- the record with N, L, B, the rule and the two counts
-abbrev held : (nodes slots limit rule posts frames : ℕ) → Run
-held nodes slots limit rule posts frames = record { nodes = nodes; slots = slots; limit = limit; rule = rule; posts = posts; frames = frames }
+abbrev run : (nodes slots limit rule posts frames : ℕ) → Run
+run nodes slots limit rule posts frames = record { nodes = nodes; slots = slots; limit = limit; rule = rule; posts = posts; frames = frames }
 
 -- ---- fresh, given how many cells each of the four tables has
 abbrev fresh : (n l limit rule waiting posted sent dropped : ℕ) → Notice
@@ -34,7 +40,7 @@ pub record FreshGives : Type 0 where
   pub highest : fresh 64 1024 65535 1 4096 4096 4096 4096 ≡ notice 0 0
 
 fresh-gives : FreshGives
-unfolding freshVerdict refuse
+unfolding freshVerdict rangesVerdict settingsVerdict ruleVerdict sizesVerdict heldShortVerdict then refuse
 fresh-gives = record {
   nodes = refl;
   slots = refl;
@@ -49,39 +55,41 @@ fresh-gives = record {
   highest = refl;
 }
 
-fresh-record : freshRun (held 9 9 9 9 9 9) 1 4 6 0 Accepted ≡ held 1 4 6 0 0 0
-unfolding freshRun
-fresh-record = refl
+-- the record, both counts and the cells needed
+fresh-held : afterFresh 1 4 6 0 (held (run 9 9 9 9 9 9) (7 ∷ 8 ∷ []) (5 ∷ []) (3 ∷ []) (1 ∷ [])) ≡ held (run 1 4 6 0 0 0) (0 ∷ 8 ∷ []) (0 ∷ []) (0 ∷ []) (0 ∷ [])
+unfolding zeroed written
+fresh-held = refl
 
-fresh-table : cleared 1 (7 ∷ 8 ∷ []) Accepted ≡ 0 ∷ 8 ∷ []
-unfolding cleared written
-fresh-table = refl
+-- a refused call leaves the record
+record-then : recordAfter Accepted (run 1 4 6 0 0 0) (run 9 9 9 9 9 9) ∷ recordAfter (Refused Rule) (run 1 4 6 0 0 0) (run 9 9 9 9 9 9) ∷ [] ≡ run 1 4 6 0 0 0 ∷ run 9 9 9 9 9 9 ∷ []
+unfolding recordAfter
+record-then = refl
 
 -- ---- post
 abbrev post : (old : Run) (arrivals waiting posted sent dropped : List ℕ) → Notice
-post old arrivals waiting posted sent dropped = noticeOf (postVerdict old arrivals waiting posted sent dropped)
+post old arrivals waiting posted sent dropped = noticeOf (postVerdict arrivals (held old waiting posted sent dropped))
 
 -- Post 1, 2, 3, 7, 4, 5, 8, 9, 6.
 pub record PostGives : Type 0 where
-  pub nodes : post (held 65 0 6 1 0 0) (1 ∷ []) (0 ∷ []) (0 ∷ []) (0 ∷ []) (0 ∷ []) ≡ notice 1 0
-  pub slots : post (held 1 1025 6 2 0 0) (1 ∷ []) (0 ∷ []) (0 ∷ []) (0 ∷ []) (0 ∷ []) ≡ notice 2 0
-  pub rule : post (held 1 4 0 2 0 0) (1 ∷ []) (0 ∷ []) (0 ∷ []) (0 ∷ []) (0 ∷ []) ≡ notice 3 0
-  pub limit : post (held 1 4 0 1 0 0) [] (0 ∷ []) (0 ∷ []) (0 ∷ []) (0 ∷ []) ≡ notice 7 0
-  pub arrivals : post (held 1 4 6 1 0 0) [] [] (0 ∷ []) (0 ∷ []) (0 ∷ []) ≡ notice 4 0
+  pub nodes : post (run 65 0 6 1 0 0) (1 ∷ []) (0 ∷ []) (0 ∷ []) (0 ∷ []) (0 ∷ []) ≡ notice 1 0
+  pub slots : post (run 1 1025 6 2 0 0) (1 ∷ []) (0 ∷ []) (0 ∷ []) (0 ∷ []) (0 ∷ []) ≡ notice 2 0
+  pub rule : post (run 1 4 0 2 0 0) (1 ∷ []) (0 ∷ []) (0 ∷ []) (0 ∷ []) (0 ∷ []) ≡ notice 3 0
+  pub limit : post (run 1 4 0 1 0 0) [] (0 ∷ []) (0 ∷ []) (0 ∷ []) (0 ∷ []) ≡ notice 7 0
+  pub arrivals : post (run 1 4 6 1 0 0) [] [] (0 ∷ []) (0 ∷ []) (0 ∷ []) ≡ notice 4 0
   -- a table that is only read counts too
-  pub short-sent : post (held 1 4 6 1 0 0) (1 ∷ []) (7 ∷ []) (0 ∷ []) [] (0 ∷ []) ≡ notice 5 0
+  pub short-sent : post (run 1 4 6 1 0 0) (1 ∷ []) (7 ∷ []) (0 ∷ []) [] (0 ∷ []) ≡ notice 5 0
   -- the first of two pairs whose books disagree
-  pub books : post (held 2 4 6 1 1000000 0) (1 ∷ 1 ∷ 1 ∷ 1 ∷ []) (0 ∷ 7 ∷ 7 ∷ 0 ∷ []) (0 ∷ 7 ∷ 7 ∷ 0 ∷ []) (0 ∷ 0 ∷ 0 ∷ 0 ∷ []) (0 ∷ 0 ∷ 0 ∷ 0 ∷ []) ≡ notice 8 1
-  pub spent : post (held 1 4 6 1 1000000 0) (65536 ∷ []) (0 ∷ []) (0 ∷ []) (0 ∷ []) (0 ∷ []) ≡ notice 9 0
-  pub long-spent : post (held 1 4 6 1 4294967295 0) (1 ∷ []) (0 ∷ []) (0 ∷ []) (0 ∷ []) (0 ∷ []) ≡ notice 9 0
-  pub above : post (held 2 4 6 1 0 0) (0 ∷ 65535 ∷ 0 ∷ 65536 ∷ []) (0 ∷ 0 ∷ 0 ∷ 0 ∷ []) (0 ∷ 0 ∷ 0 ∷ 0 ∷ []) (0 ∷ 0 ∷ 0 ∷ 0 ∷ []) (0 ∷ 0 ∷ 0 ∷ 0 ∷ []) ≡ notice 6 3
-  pub last : post (held 1 4 6 1 999999 1000000) (65535 ∷ []) (6 ∷ []) (6 ∷ []) (0 ∷ []) (0 ∷ []) ≡ notice 0 0
+  pub books : post (run 2 4 6 1 1000000 0) (1 ∷ 1 ∷ 1 ∷ 1 ∷ []) (0 ∷ 7 ∷ 7 ∷ 0 ∷ []) (0 ∷ 7 ∷ 7 ∷ 0 ∷ []) (0 ∷ 0 ∷ 0 ∷ 0 ∷ []) (0 ∷ 0 ∷ 0 ∷ 0 ∷ []) ≡ notice 8 1
+  pub spent : post (run 1 4 6 1 1000000 0) (65536 ∷ []) (0 ∷ []) (0 ∷ []) (0 ∷ []) (0 ∷ []) ≡ notice 9 0
+  pub long-spent : post (run 1 4 6 1 4294967295 0) (1 ∷ []) (0 ∷ []) (0 ∷ []) (0 ∷ []) (0 ∷ []) ≡ notice 9 0
+  pub above : post (run 2 4 6 1 0 0) (0 ∷ 65535 ∷ 0 ∷ 65536 ∷ []) (0 ∷ 0 ∷ 0 ∷ 0 ∷ []) (0 ∷ 0 ∷ 0 ∷ 0 ∷ []) (0 ∷ 0 ∷ 0 ∷ 0 ∷ []) (0 ∷ 0 ∷ 0 ∷ 0 ∷ []) ≡ notice 6 3
+  pub last : post (run 1 4 6 1 999999 1000000) (65535 ∷ []) (6 ∷ []) (6 ∷ []) (0 ∷ []) (0 ∷ []) ≡ notice 0 0
   -- posted at 65,535 × posts, and one above
-  pub all-posted : post (held 1 4 6 1 2 0) (1 ∷ []) (0 ∷ []) (131070 ∷ []) (131070 ∷ []) (0 ∷ []) ≡ notice 0 0
-  pub over-posted : post (held 1 4 6 1 2 0) (1 ∷ []) (0 ∷ []) (131071 ∷ []) (131071 ∷ []) (0 ∷ []) ≡ notice 8 0
+  pub all-posted : post (run 1 4 6 1 2 0) (1 ∷ []) (0 ∷ []) (131070 ∷ []) (131070 ∷ []) (0 ∷ []) ≡ notice 0 0
+  pub over-posted : post (run 1 4 6 1 2 0) (1 ∷ []) (0 ∷ []) (131071 ∷ []) (131071 ∷ []) (0 ∷ []) ≡ notice 8 0
 
 post-gives : PostGives
-unfolding postVerdict refuse firstDisagreeing booksAgree firstAbove firstBelow firstFrom
+unfolding postVerdict rangesVerdict settingsVerdict ruleVerdict sizesVerdict demandShortVerdict heldShortVerdict agreementVerdict countVerdict demandAboveVerdict then refuse firstDisagreeing booksAgree firstAbove firstBelow firstFrom
 post-gives = record {
   nodes = refl;
   slots = refl;
@@ -98,48 +106,38 @@ post-gives = record {
   over-posted = refl;
 }
 
-post-record : postRun (held 1 4 6 0 7 9) Accepted ≡ held 1 4 6 0 8 9
-unfolding postRun
-post-record = refl
-
--- B 6: 5 wait and 10 arrive, so that 6 wait and 9 are dropped; where 1 arrives 6 wait and none is dropped
-post-waiting : postWaiting (held 2 4 6 1 0 0) (10 ∷ 1 ∷ 0 ∷ 7 ∷ []) (5 ∷ 5 ∷ 6 ∷ 0 ∷ 3 ∷ []) Accepted ≡ 6 ∷ 6 ∷ 6 ∷ 6 ∷ 3 ∷ []
-unfolding postWaiting written tab
-post-waiting = refl
-
-post-dropped : postDropped (held 2 4 6 1 0 0) (10 ∷ 1 ∷ 0 ∷ 7 ∷ []) (5 ∷ 5 ∷ 6 ∷ 0 ∷ []) (1 ∷ 1 ∷ 1 ∷ 1 ∷ 3 ∷ []) Accepted ≡ 10 ∷ 1 ∷ 1 ∷ 2 ∷ 3 ∷ []
-unfolding postDropped written tab
-post-dropped = refl
-
-post-posted : postPosted (held 2 4 6 1 0 0) (10 ∷ 1 ∷ 0 ∷ 7 ∷ []) (1 ∷ 1 ∷ 1 ∷ 1 ∷ 3 ∷ []) Accepted ≡ 11 ∷ 2 ∷ 1 ∷ 8 ∷ 3 ∷ []
-unfolding postPosted written tab
-post-posted = refl
+-- B 6: 5 wait and 10 arrive, so that 6 wait and 9 are dropped; where 1 arrives 6 wait and none is dropped; posts rises, and nothing else in the record
+post-held :
+    afterPost (10 ∷ 1 ∷ 0 ∷ 7 ∷ []) (held (run 2 4 6 1 7 9) (5 ∷ 5 ∷ 6 ∷ 0 ∷ 3 ∷ []) (1 ∷ 1 ∷ 1 ∷ 1 ∷ 3 ∷ []) (2 ∷ 2 ∷ 2 ∷ 2 ∷ []) (1 ∷ 1 ∷ 1 ∷ 1 ∷ 3 ∷ [])) ≡
+    held (run 2 4 6 1 8 9) (6 ∷ 6 ∷ 6 ∷ 6 ∷ 3 ∷ []) (11 ∷ 2 ∷ 1 ∷ 8 ∷ 3 ∷ []) (2 ∷ 2 ∷ 2 ∷ 2 ∷ []) (10 ∷ 1 ∷ 1 ∷ 2 ∷ 3 ∷ [])
+unfolding queued more overflowed written tab
+post-held = refl
 
 -- ---- frame, given how many cells kept, withdrawn and schedule have
 abbrev frame : (old : Run) (waiting posted sent dropped : List ℕ) (kept withdrawn schedule : ℕ) → Notice
-frame old waiting posted sent dropped kept withdrawn schedule = noticeOf (frameVerdict old waiting posted sent dropped kept withdrawn schedule)
+frame old waiting posted sent dropped kept withdrawn schedule = noticeOf (frameVerdict (held old waiting posted sent dropped) kept withdrawn schedule)
 
 -- Frame 1, 2, 3, 7, 5, 8, 9.
 pub record FrameGives : Type 0 where
-  pub nodes : frame (held 0 0 6 1 0 0) (0 ∷ []) (0 ∷ []) (0 ∷ []) (0 ∷ []) 1 1 4 ≡ notice 1 0
-  pub slots : frame (held 1 0 6 2 0 0) (0 ∷ []) (0 ∷ []) (0 ∷ []) (0 ∷ []) 1 1 4 ≡ notice 2 0
-  pub rule : frame (held 1 4 65536 2 0 0) (0 ∷ []) (0 ∷ []) (0 ∷ []) (0 ∷ []) 1 1 4 ≡ notice 3 0
-  pub limit : frame (held 1 4 65536 1 0 0) [] (0 ∷ []) (0 ∷ []) (0 ∷ []) 1 1 4 ≡ notice 7 0
-  pub short-posted : frame (held 1 4 6 1 0 0) (7 ∷ []) [] (0 ∷ []) (0 ∷ []) 1 1 4 ≡ notice 5 0
-  pub short-kept : frame (held 1 4 6 1 0 0) (7 ∷ []) (0 ∷ []) (0 ∷ []) (0 ∷ []) 0 1 4 ≡ notice 5 0
-  pub short-withdrawn : frame (held 1 4 6 1 0 0) (7 ∷ []) (0 ∷ []) (0 ∷ []) (0 ∷ []) 1 0 4 ≡ notice 5 0
-  pub short-schedule : frame (held 1 4 6 1 0 0) (7 ∷ []) (0 ∷ []) (0 ∷ []) (0 ∷ []) 1 1 3 ≡ notice 5 0
+  pub nodes : frame (run 0 0 6 1 0 0) (0 ∷ []) (0 ∷ []) (0 ∷ []) (0 ∷ []) 1 1 4 ≡ notice 1 0
+  pub slots : frame (run 1 0 6 2 0 0) (0 ∷ []) (0 ∷ []) (0 ∷ []) (0 ∷ []) 1 1 4 ≡ notice 2 0
+  pub rule : frame (run 1 4 65536 2 0 0) (0 ∷ []) (0 ∷ []) (0 ∷ []) (0 ∷ []) 1 1 4 ≡ notice 3 0
+  pub limit : frame (run 1 4 65536 1 0 0) [] (0 ∷ []) (0 ∷ []) (0 ∷ []) 1 1 4 ≡ notice 7 0
+  pub short-posted : frame (run 1 4 6 1 0 0) (7 ∷ []) [] (0 ∷ []) (0 ∷ []) 1 1 4 ≡ notice 5 0
+  pub short-kept : frame (run 1 4 6 1 0 0) (7 ∷ []) (0 ∷ []) (0 ∷ []) (0 ∷ []) 0 1 4 ≡ notice 5 0
+  pub short-withdrawn : frame (run 1 4 6 1 0 0) (7 ∷ []) (0 ∷ []) (0 ∷ []) (0 ∷ []) 1 0 4 ≡ notice 5 0
+  pub short-schedule : frame (run 1 4 6 1 0 0) (7 ∷ []) (0 ∷ []) (0 ∷ []) (0 ∷ []) 1 1 3 ≡ notice 5 0
   -- the bound of posted is 65,535 × posts in a frame too
-  pub books : frame (held 1 4 6 1 0 1000000) (1 ∷ []) (1 ∷ []) (0 ∷ []) (0 ∷ []) 1 1 4 ≡ notice 8 0
-  pub spent : frame (held 1 4 6 1 1 1000000) (1 ∷ []) (1 ∷ []) (0 ∷ []) (0 ∷ []) 1 1 4 ≡ notice 9 0
+  pub books : frame (run 1 4 6 1 0 1000000) (1 ∷ []) (1 ∷ []) (0 ∷ []) (0 ∷ []) 1 1 4 ≡ notice 8 0
+  pub spent : frame (run 1 4 6 1 1 1000000) (1 ∷ []) (1 ∷ []) (0 ∷ []) (0 ∷ []) 1 1 4 ≡ notice 9 0
   -- case p: post count 1,000,000, frame count 0, all else in order: the next post gives 9, a frame is still accepted
-  pub case-p : frame (held 1 4 6 1 1000000 0) (6 ∷ []) (6 ∷ []) (0 ∷ []) (0 ∷ []) 1 1 4 ≡ notice 0 0
-  pub case-p-post : post (held 1 4 6 1 1000000 0) (0 ∷ []) (6 ∷ []) (6 ∷ []) (0 ∷ []) (0 ∷ []) ≡ notice 9 0
+  pub case-p : frame (run 1 4 6 1 1000000 0) (6 ∷ []) (6 ∷ []) (0 ∷ []) (0 ∷ []) 1 1 4 ≡ notice 0 0
+  pub case-p-post : post (run 1 4 6 1 1000000 0) (0 ∷ []) (6 ∷ []) (6 ∷ []) (0 ∷ []) (0 ∷ []) ≡ notice 9 0
   -- a frame over empty queues is accepted
-  pub empty : frame (held 1 4 6 1 0 999999) (0 ∷ []) (0 ∷ []) (0 ∷ []) (0 ∷ []) 1 1 4 ≡ notice 0 0
+  pub empty : frame (run 1 4 6 1 0 999999) (0 ∷ []) (0 ∷ []) (0 ∷ []) (0 ∷ []) 1 1 4 ≡ notice 0 0
 
 frame-gives : FrameGives
-unfolding frameVerdict postVerdict refuse firstDisagreeing booksAgree firstAbove firstBelow firstFrom
+unfolding frameVerdict postVerdict rangesVerdict settingsVerdict ruleVerdict sizesVerdict demandShortVerdict heldShortVerdict lentShortVerdict agreementVerdict countVerdict demandAboveVerdict then refuse firstDisagreeing booksAgree firstAbove firstBelow firstFrom
 frame-gives = record {
   nodes = refl;
   slots = refl;
@@ -156,6 +154,9 @@ frame-gives = record {
   empty = refl;
 }
 
-frame-record : frameRun (held 1 4 6 0 7 9) Accepted ≡ held 1 4 6 0 7 10
-unfolding frameRun
-frame-record = refl
+-- what is kept leaves the queue; frames rises, and nothing else in the record
+frame-held :
+    afterFrame (4 ∷ 0 ∷ 2 ∷ 0 ∷ 9 ∷ []) (held (run 2 4 6 0 7 9) (6 ∷ 1 ∷ 2 ∷ 0 ∷ 9 ∷ []) (8 ∷ 1 ∷ 2 ∷ 0 ∷ []) (1 ∷ 0 ∷ 0 ∷ 0 ∷ 5 ∷ []) (1 ∷ 0 ∷ 0 ∷ 0 ∷ [])) ≡
+    held (run 2 4 6 0 7 10) (2 ∷ 1 ∷ 0 ∷ 0 ∷ 9 ∷ []) (8 ∷ 1 ∷ 2 ∷ 0 ∷ []) (5 ∷ 0 ∷ 2 ∷ 0 ∷ 5 ∷ []) (1 ∷ 0 ∷ 0 ∷ 0 ∷ [])
+unfolding served more written tab
+frame-held = refl

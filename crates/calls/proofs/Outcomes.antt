@@ -1,169 +1,148 @@
--- What each entry owes once its verdict is known: nothing changes after a refusal, and after an acceptance the work has the room that it asks
--- and leaves what the contract says. Assumes nothing.
-use Prim.Native.Nat.{ℕ, _+_, _-_, _*_, _<_, _^_, min}
+-- What each call owes once its verdict is known: nothing changes after a refusal, and after an acceptance the work has the room that it asks
+-- and leaves what the promise says. Assumes nothing.
+use Prim.Native.Nat.{ℕ, _<_, _^_}
 use native.Mathlib.Omega.{arith}
-use mathlib.Core.Path.{_≡_, refl, sym, _∙_, ap}
+use mathlib.Core.Path.{_≡_, refl, sym, _∙_, ap, subst}
 use mathlib.Core.List.{List}
-use lib.ListN.{length, getD, replicate}
-use Rattle.sums.specs.Tables.{tab, written}
+use lib.ListN.{length, getD}
 use Rattle.star.specs.declared.refusals.Refusal.{Refusal}
 use Rattle.star.specs.declared.refusals.Verdict.{Verdict}
 use Rattle.star.specs.declared.refusals.Verdict.the-variants.{Accepted, Refused}
-use Rattle.star.specs.Refusals.{noticeOf}
 use Rattle.star.specs.Tables.{Square}
 use Rattle.star.specs.Lines.{wholeFrame}
-use Rattle.star.proofs.RefusalLaws.{in-numbers, never}
+use Rattle.star.proofs.RefusalLaws.{promise-refused, promise-done}
+use Rattle.planner.specs.declared.answers.Report.{Report}
 use Rattle.planner.specs.declared.answers.Answer.{Answer}
 use Rattle.planner.specs.declared.answers.Answer.the-variants as answer
-use Rattle.planner.specs.Plans.{verdictOf, PlanRoom, Wrote}
+use Rattle.planner.specs.Plans.{verdictOf, Lent, PlanDone, PlanRoom}
 use Rattle.planner.proofs.PlanLaws.{whole-room, plan-below-at}
+use Rattle.books.specs.Queues.{zeroed, more, overflowed, queued, served}
 use Rattle.books.specs.Rooms.{Tables, Adds, Arrives, Drops, Takes}
 use Rattle.calls.specs.declared.record.Run.{Run}
-use Rattle.calls.specs.Runs.{freshVerdict, freshNotice, cleared, Freshened, postVerdict, postNotice, postWaiting, postPosted, postDropped, Posted, frameVerdict, frameNotice, Framed}
-use Rattle.calls.proofs.Verdicts.{PostFits, FrameFits, fresh-accepted, post-accepted, frame-accepted}
+use Rattle.calls.specs.Held.{Held, held, freshRun, afterFresh, postRun, afterPost, frameRun, afterFrame, recordAfter}
+use Rattle.calls.specs.Runs.{freshVerdict, Freshened, postVerdict, Posted, frameVerdict, Framed}
+use Rattle.calls.proofs.Verdicts.{held-tables, fresh-accepted, fresh-notice, PostFits, post-accepted, post-notice, FrameFits, frame-accepted, frame-notice}
 
--- ---- the chains of refusals in numbers
-fresh-notice : (n l limit rule waiting posted sent dropped : ℕ) → noticeOf (freshVerdict n l limit rule waiting posted sent dropped) ≡ freshNotice n l limit rule waiting posted sent dropped
-unfolding freshVerdict freshNotice
-fresh-notice n l limit rule waiting posted sent dropped = in-numbers _ _ _ (in-numbers _ _ _ (in-numbers _ _ _ (in-numbers _ _ _ (in-numbers _ _ _ refl))))
+-- ---- what is held, as one thing
+pub held-same : {r r' : Run} {w w' p p' s s' d d' : List ℕ} → r ≡ r' → w ≡ w' → p ≡ p' → s ≡ s' → d ≡ d' → held r w p s d ≡ held r' w' p' s' d'
+held-same {r' = r'} {w = w} {w' = w'} {p = p} {p' = p'} {s = s} {s' = s'} {d = d} er ew ep es ed =
+    ap (λ x. held x w p s d) er ∙ ap (λ x. held r' x p s d) ew ∙ ap (λ x. held r' w' x s d) ep ∙ ap (λ x. held r' w' p' x d) es ∙ ap (λ x. held r' w' p' s' x) ed
 
-post-notice : (old : Run) (arrivals waiting posted sent dropped : List ℕ) → noticeOf (postVerdict old arrivals waiting posted sent dropped) ≡ postNotice old arrivals waiting posted sent dropped
-unfolding postVerdict postNotice
-post-notice old arrivals waiting posted sent dropped =
-    in-numbers _ _ _ (in-numbers _ _ _ (in-numbers _ _ _ (in-numbers _ _ _ (in-numbers _ _ _ (in-numbers _ _ _ (in-numbers _ _ _ (in-numbers _ _ _ (in-numbers _ _ _ refl))))))))
+-- the record after an accepted call, and after a refused one
+pub accepted-record : {v : Verdict} (new old : Run) → v ≡ Accepted → recordAfter v new old ≡ new
+unfolding recordAfter
+accepted-record new old e = rw e refl
 
-pub frame-notice : (old : Run) (waiting posted sent dropped : List ℕ) (kept withdrawn schedule : ℕ) →
-    noticeOf (frameVerdict old waiting posted sent dropped kept withdrawn schedule) ≡ frameNotice old waiting posted sent dropped kept withdrawn schedule
-unfolding frameVerdict frameNotice
-frame-notice old waiting posted sent dropped kept withdrawn schedule =
-    in-numbers _ _ _ (in-numbers _ _ _ (in-numbers _ _ _ (in-numbers _ _ _ (in-numbers _ _ _ (in-numbers _ _ _ (in-numbers _ _ _ refl))))))
+pub refused-record : {v : Verdict} {x : Refusal} (new old : Run) → v ≡ Refused x → old ≡ recordAfter v new old
+unfolding recordAfter
+refused-record new old e = rw e refl
 
 -- ---- fresh
-module _ (old : Run) (n l limit rule : ℕ) (waiting posted sent dropped : List ℕ) {v : Verdict}
-    (is : v ≡ freshVerdict n l limit rule (length waiting) (length posted) (length sent) (length dropped)) where
-  fresh-noted : noticeOf v ≡ freshNotice n l limit rule (length waiting) (length posted) (length sent) (length dropped)
-  fresh-noted = ap noticeOf is ∙ fresh-notice n l limit rule (length waiting) (length posted) (length sent) (length dropped)
+module _ (n l limit rule : ℕ) (h : Held) {v : Verdict} (is : v ≡ freshVerdict n l limit rule (length (h .waiting)) (length (h .posted)) (length (h .sent)) (length (h .dropped))) where
+  fresh-told : {h' : Held} → h ≡ h' → {x : Refusal} → v ≡ Refused x → Freshened n l limit rule h h' v
+  fresh-told same e = subst (λ h'. Freshened n l limit rule h h' v) same (promise-refused is (fresh-notice n l limit rule (length (h .waiting)) (length (h .posted)) (length (h .sent)) (length (h .dropped))) h e)
 
-  pub fresh-refused : {r : Refusal} → v ≡ Refused r → Freshened old n l limit rule waiting posted sent dropped waiting posted sent dropped v
-  unfolding cleared
-  fresh-refused e = record { answer = is; notice = fresh-noted; now-waiting = rw e refl; now-posted = rw e refl; now-sent = rw e refl; now-dropped = rw e refl }
+  pub fresh-refused : {x : Refusal} → v ≡ Refused x → Freshened n l limit rule h (held (recordAfter v (freshRun n l limit rule) (h .run)) (h .waiting) (h .posted) (h .sent) (h .dropped)) v
+  fresh-refused e = fresh-told (ap (λ r. held r (h .waiting) (h .posted) (h .sent) (h .dropped)) (refused-record (freshRun n l limit rule) (h .run) e)) e
 
-  pub fresh-room : v ≡ Accepted → Tables n waiting posted sent dropped
-  fresh-room e = fresh-accepted n l limit rule waiting posted sent dropped (sym is ∙ e) .1
+  pub fresh-room : v ≡ Accepted → Tables n (h .waiting) (h .posted) (h .sent) (h .dropped)
+  fresh-room e = let a = fresh-accepted n l limit rule h (sym is ∙ e) in held-tables (a .0 .sizes .nodes) (a .1)
 
-  pub fresh-done : v ≡ Accepted → {waiting' posted' sent' dropped' : List ℕ} →
-      waiting' ≡ written (n * n) (replicate (n * n) 0) waiting → posted' ≡ written (n * n) (replicate (n * n) 0) posted →
-      sent' ≡ written (n * n) (replicate (n * n) 0) sent → dropped' ≡ written (n * n) (replicate (n * n) 0) dropped →
-      Freshened old n l limit rule waiting posted sent dropped waiting' posted' sent' dropped' v
-  unfolding cleared
-  fresh-done e w p s d = record { answer = is; notice = fresh-noted; now-waiting = rw e w; now-posted = rw e p; now-sent = rw e s; now-dropped = rw e d }
+  pub fresh-done : v ≡ Accepted → {waiting posted sent dropped : List ℕ} → waiting ≡ zeroed n (h .waiting) → posted ≡ zeroed n (h .posted) → sent ≡ zeroed n (h .sent) → dropped ≡ zeroed n (h .dropped) →
+      Freshened n l limit rule h (held (recordAfter v (freshRun n l limit rule) (h .run)) waiting posted sent dropped) v
+  fresh-done e w p s d =
+      promise-done is (fresh-notice n l limit rule (length (h .waiting)) (length (h .posted)) (length (h .sent)) (length (h .dropped))) h _ e
+      (held-same (accepted-record (freshRun n l limit rule) (h .run) e) w p s d)
 
 -- ---- post
-module _ (old : Run) (arrivals waiting posted sent dropped : List ℕ) {v : Verdict} (is : v ≡ postVerdict old arrivals waiting posted sent dropped) where
-  post-noted : noticeOf v ≡ postNotice old arrivals waiting posted sent dropped
-  post-noted = ap noticeOf is ∙ post-notice old arrivals waiting posted sent dropped
+module _ (arrivals : List ℕ) (h : Held) {v : Verdict} (is : v ≡ postVerdict arrivals h) where
+  pub post-refused : {x : Refusal} → v ≡ Refused x → Posted arrivals h (held (recordAfter v (postRun (h .run)) (h .run)) (h .waiting) (h .posted) (h .sent) (h .dropped)) v
+  post-refused e =
+      subst (λ r. Posted arrivals h (held r (h .waiting) (h .posted) (h .sent) (h .dropped)) v) (refused-record (postRun (h .run)) (h .run) e)
+      (promise-refused is (post-notice arrivals h) h e)
 
-  pub post-refused : {r : Refusal} → v ≡ Refused r → Posted old arrivals waiting posted sent dropped waiting posted dropped v
-  unfolding postWaiting postPosted postDropped
-  post-refused e = record { answer = is; notice = post-noted; now-waiting = rw e refl; now-posted = rw e refl; now-dropped = rw e refl }
+  pub post-fits : v ≡ Accepted → PostFits arrivals h
+  post-fits e = post-accepted arrivals h (sym is ∙ e)
 
-  pub post-done : v ≡ Accepted → {waiting' posted' dropped' : List ℕ} →
-      waiting' ≡ written (old .nodes * old .nodes) (tab (old .nodes * old .nodes) (λ p. min (getD waiting p 0 + getD arrivals p 0) (old .limit))) waiting →
-      posted' ≡ written (old .nodes * old .nodes) (tab (old .nodes * old .nodes) (λ p. getD posted p 0 + getD arrivals p 0)) posted →
-      dropped' ≡ written (old .nodes * old .nodes) (tab (old .nodes * old .nodes) (λ p. getD dropped p 0 + (getD waiting p 0 + getD arrivals p 0 - old .limit))) dropped →
-      Posted old arrivals waiting posted sent dropped waiting' posted' dropped' v
-  unfolding postWaiting postPosted postDropped
-  post-done e w p d = record { answer = is; notice = post-noted; now-waiting = rw e w; now-posted = rw e p; now-dropped = rw e d }
+  pub post-done : v ≡ Accepted → {waiting posted dropped : List ℕ} → waiting ≡ queued (h .run .nodes) (h .run .limit) arrivals (h .waiting) → posted ≡ more (h .run .nodes) arrivals (h .posted) →
+      dropped ≡ overflowed (h .run .nodes) (h .run .limit) arrivals (h .waiting) (h .dropped) →
+      Posted arrivals h (held (recordAfter v (postRun (h .run)) (h .run)) waiting posted (h .sent) dropped) v
+  post-done e w p d = promise-done is (post-notice arrivals h) h _ e (held-same (accepted-record (postRun (h .run)) (h .run) e) w p refl d)
 
 -- the sums that a post makes fit: no pair had more than 65,535 a post, and there were fewer than 1,000,000 posts
-module _ {old : Run} {arrivals waiting posted sent dropped : List ℕ} (fits : PostFits old arrivals waiting posted sent dropped) where
-  pub post-adds : Adds (old .nodes) posted arrivals
+module _ {arrivals : List ℕ} {h : Held} (fits : PostFits arrivals h) where
+  tables : Tables (h .run .nodes) (h .waiting) (h .posted) (h .sent) (h .dropped)
+  tables = held-tables (fits .ranges .sizes .nodes) (fits .long-enough)
+
+  pub post-adds : Adds (h .run .nodes) (h .posted) arrivals
   post-adds = record {
-    room = fits .tables .postings;
+    room = tables .postings;
     given = fits .given;
-    fits = λ p h. omega (arith, fits .order .books p h, fits .within .most p h);
+    fits = λ p lt. omega (arith, fits .balanced .books p lt, fits .within .most p lt, fits .few);
   }
 
-  pub post-arrives : Arrives (old .nodes) arrivals waiting
+  pub post-arrives : Arrives (h .run .nodes) arrivals (h .waiting)
   post-arrives = record {
-    room = fits .tables .queues;
+    room = tables .queues;
     given = fits .given;
-    queues = record { most = λ p h. omega (arith, fits .order .books p h) };
+    queues = record { most = λ p lt. omega (arith, fits .balanced .books p lt, fits .ranges .known-limit) };
     within = fits .within;
   }
 
-  pub post-drops : Drops (old .nodes) arrivals waiting dropped
-  post-drops = record { arrives = post-arrives; amounts = fits .tables .drops; few = λ p h. omega (arith, fits .order .books p h) }
+  pub post-drops : Drops (h .run .nodes) arrivals (h .waiting) (h .dropped)
+  post-drops = record { arrives = post-arrives; amounts = tables .drops; few = λ p lt. omega (arith, fits .balanced .books p lt, fits .few) }
 
 -- the count of posts can rise where a post is accepted
-pub post-counted : {old : Run} {arrivals waiting posted sent dropped waiting' posted' dropped' : List ℕ} {v : Verdict} →
-    Posted old arrivals waiting posted sent dropped waiting' posted' dropped' v → v ≡ Accepted → old .posts < 1000000
-post-counted {old} {arrivals} {waiting} {posted} {sent} {dropped} h e = post-accepted old arrivals waiting posted sent dropped (sym (h .answer) ∙ e) .order .few
+pub post-counted : {arrivals : List ℕ} {h h' : Held} {v : Verdict} → Posted arrivals h h' v → v ≡ Accepted → h .run .posts < 1000000
+post-counted {arrivals} {h} p e = post-accepted arrivals h (sym (p .answer) ∙ e) .few
 
 -- ---- frame
-module _ (old : Run) (waiting posted sent dropped kept withdrawn schedule : List ℕ) {v : Verdict}
-    (is : v ≡ frameVerdict old waiting posted sent dropped (length kept) (length withdrawn) (length schedule)) where
-  frame-noted : (u : Verdict) → u ≡ v → noticeOf u ≡ frameNotice old waiting posted sent dropped (length kept) (length withdrawn) (length schedule)
-  frame-noted u e = ap noticeOf (e ∙ is) ∙ frame-notice old waiting posted sent dropped (length kept) (length withdrawn) (length schedule)
-
+module _ (k : Lent) (h : Held) {v : Verdict} (is : v ≡ frameVerdict h (length (k .kept)) (length (k .withdrawn)) (length (k .schedule))) where
   pub frame-refused : {x : Refusal} → v ≡ Refused x →
-      Framed old waiting posted sent dropped kept withdrawn schedule waiting sent kept withdrawn schedule (answer.Refused x)
-  frame-refused e = record {
-    answer = sym e ∙ is;
-    notice = frame-noted _ (sym e);
-    accepted = λ q. absurd (never q);
-    now-waiting = λ q. absurd (never q);
-    now-sent = λ q. absurd (never q);
-    refused = λ x q. (refl, refl, refl, refl, refl);
-  }
+      Framed k k h (held (recordAfter (Refused x) (frameRun (h .run)) (h .run)) (h .waiting) (h .posted) (h .sent) (h .dropped)) (answer.Refused x)
+  frame-refused {x} e =
+      subst (λ r. Framed k k h (held r (h .waiting) (h .posted) (h .sent) (h .dropped)) (answer.Refused x)) (refused-record {v = Refused x} (frameRun (h .run)) (h .run) refl)
+      (promise-refused (sym e ∙ is) (frame-notice h (length (k .kept)) (length (k .withdrawn)) (length (k .schedule))) (h, k) refl)
 
-  pub frame-fits : v ≡ Accepted → FrameFits old waiting posted sent dropped (length kept) (length withdrawn) (length schedule)
-  frame-fits e = frame-accepted old waiting posted sent dropped (length kept) (length withdrawn) (length schedule) (sym is ∙ e)
+  pub frame-fits : v ≡ Accepted → FrameFits h k
+  frame-fits e = frame-accepted h k (sym is ∙ e)
 
-  pub frame-done : v ≡ Accepted → {waiting' sent' kept' withdrawn' schedule' : List ℕ} {r : Answer} → verdictOf r ≡ Accepted →
-      Wrote (old .nodes) (old .slots) (old .rule) (wholeFrame (old .nodes) (old .slots)) waiting kept withdrawn schedule kept' withdrawn' schedule' r →
-      waiting' ≡ written (old .nodes * old .nodes) (tab (old .nodes * old .nodes) (λ p. getD waiting p 0 - getD kept' p 0)) waiting →
-      sent' ≡ written (old .nodes * old .nodes) (tab (old .nodes * old .nodes) (λ p. getD sent p 0 + getD kept' p 0)) sent →
-      Framed old waiting posted sent dropped kept withdrawn schedule waiting' sent' kept' withdrawn' schedule' r
-  frame-done e planned wrote w s = record {
-    answer = planned ∙ sym e ∙ is;
-    notice = frame-noted _ (planned ∙ sym e);
-    accepted = λ q. wrote;
-    now-waiting = λ q. w;
-    now-sent = λ q. s;
-    refused = λ x q. absurd (never (sym q ∙ planned));
-  }
+  pub frame-done : v ≡ Accepted → {k' : Lent} {f : Report} {waiting sent : List ℕ} →
+      PlanDone (h .run .nodes) (h .run .slots) (h .run .rule) (wholeFrame (h .run .nodes) (h .run .slots)) (h .waiting) k k' f →
+      waiting ≡ served (h .run .nodes) (k' .kept) (h .waiting) → sent ≡ more (h .run .nodes) (k' .kept) (h .sent) →
+      Framed k k' h (held (recordAfter Accepted (frameRun (h .run)) (h .run)) waiting (h .posted) sent (h .dropped)) (answer.Planned f)
+  frame-done e {k'} plan w s =
+      promise-done (sym e ∙ is) (frame-notice h (length (k .kept)) (length (k .withdrawn)) (length (k .schedule))) (h, k) (_, k') refl
+      (record { plan = plan; after = held-same (accepted-record (frameRun (h .run)) (h .run) refl) w refl s refl })
 
-module _ {old : Run} {waiting posted sent dropped kept withdrawn schedule : List ℕ}
-    (fits : FrameFits old waiting posted sent dropped (length kept) (length withdrawn) (length schedule)) where
+module _ {h : Held} {k : Lent} (fits : FrameFits h k) where
   -- all checks have passed, so that the queues can be planned, each line with the whole frame
-  pub frame-room : PlanRoom (old .nodes) (old .slots) (old .rule) (wholeFrame (old .nodes) (old .slots)) waiting kept withdrawn schedule
+  pub frame-room : PlanRoom (h .run .nodes) (h .run .slots) (h .run .rule) (wholeFrame (h .run .nodes) (h .run .slots)) (h .waiting) k
   frame-room =
-      whole-room
-      (fits .ranges .some-nodes, fits .ranges .nodes, fits .ranges .some-slots, fits .ranges .slots, fits .ranges .known-rule)
-      (fits .tables .queues .cells)
-      (record { most = λ p h. omega (arith, fits .order .books p h) })
-      (fits .kept-room, fits .withdrawn-room, fits .schedule-room)
+      whole-room (fits .ranges .sizes) (fits .ranges .known-rule) (fits .long-enough .waiting)
+      (record { most = λ p lt. omega (arith, fits .balanced .books p lt, fits .ranges .known-limit) })
+      (fits .tables)
 
-  module _ {kept' withdrawn' schedule' : List ℕ} {r : Answer} (same : length kept' ≡ length kept)
-      (wrote : Wrote (old .nodes) (old .slots) (old .rule) (wholeFrame (old .nodes) (old .slots)) waiting kept withdrawn schedule kept' withdrawn' schedule' r) where
-    kept-square : Square (old .nodes) kept'
-    kept-square = record { nodes = fits .ranges .nodes; cells = omega (arith, fits .kept-room) }
+  module _ {k' : Lent} {f : Report} (done : PlanDone (h .run .nodes) (h .run .slots) (h .run .rule) (wholeFrame (h .run .nodes) (h .run .slots)) (h .waiting) k k' f) where
+    kept-square : Square (h .run .nodes) (k' .kept)
+    kept-square = record { nodes = fits .ranges .sizes .nodes; cells = omega (arith, fits .tables .kept, done .wrote .kept-length) }
 
     -- no more is kept than waits
-    pub frame-takes : Takes (old .nodes) kept' waiting
-    frame-takes = record { room = fits .tables .queues; given = kept-square; below = plan-below-at (fits .ranges .known-rule) (wrote .plan) }
+    pub frame-takes : Takes (h .run .nodes) (k' .kept) (h .waiting)
+    frame-takes = record {
+      room = record { nodes = fits .ranges .sizes .nodes; cells = fits .long-enough .waiting };
+      given = kept-square;
+      below = plan-below-at (fits .ranges .known-rule) (done .wrote .plan);
+    }
 
     -- what was sent and what is kept make up at most what was posted
-    pub frame-adds : ((p : ℕ) → getD posted p 0 < 2 ^ 64) → Adds (old .nodes) sent kept'
+    pub frame-adds : ((p : ℕ) → getD (h .posted) p 0 < 2 ^ 64) → Adds (h .run .nodes) (h .sent) (k' .kept)
     frame-adds small = record {
-      room = fits .tables .sendings;
+      room = record { nodes = fits .ranges .sizes .nodes; cells = fits .long-enough .sent };
       given = kept-square;
-      fits = λ p h. omega (arith, fits .order .books p h, plan-below-at (fits .ranges .known-rule) (wrote .plan) p h, small p);
+      fits = λ p lt. omega (arith, fits .balanced .books p lt, plan-below-at (fits .ranges .known-rule) (done .wrote .plan) p lt, small p);
     }
 
 -- the count of frames can rise where a frame is accepted
-pub frame-counted : {old : Run} {waiting posted sent dropped kept withdrawn schedule waiting' sent' kept' withdrawn' schedule' : List ℕ} {r : Answer} →
-    Framed old waiting posted sent dropped kept withdrawn schedule waiting' sent' kept' withdrawn' schedule' r → verdictOf r ≡ Accepted → old .frames < 1000000
-frame-counted {old} {waiting} {posted} {sent} {dropped} {kept} {withdrawn} {schedule} h e =
-    frame-accepted old waiting posted sent dropped (length kept) (length withdrawn) (length schedule) (sym (h .answer) ∙ e) .order .few
+pub frame-counted : {k k' : Lent} {h h' : Held} {r : Answer} → Framed k k' h h' r → verdictOf r ≡ Accepted → h .run .frames < 1000000
+frame-counted {k} {h = h} p e = frame-accepted h k (sym (p .answer) ∙ e) .few

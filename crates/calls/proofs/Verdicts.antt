@@ -1,201 +1,213 @@
--- The chains of a run's checks read backwards: what an accepted call has passed, and what a chain gives once its first checks are known. And read
--- forwards: what is in order is accepted, and what agrees in the cells needed is answered alike. Assumes nothing.
+-- The checks of a run read backwards, what an accepted call has passed; and forwards, what is in order is accepted, and what agrees in the cells needed
+-- is answered alike. And the checks in numbers. Assumes nothing.
 use Prim.Native.Nat.{ℕ, _*_, _≤_, _<_}
 use native.Mathlib.Nat.{le-of-eq}
 use mathlib.Core.Path.{_≡_, refl, sym, _∙_}
-use mathlib.Core.Bool.{false}
 use mathlib.Core.List.{List}
 use lib.ListN.{length, getD}
 use borrow.Author.Tests.{ltb-false, leb-false, le-ltb, lt-leb}
 use Rattle.sums.proofs.Searches.{first-ext}
-use Rattle.star.specs.declared.refusals.Refusal.{Refusal}
-use Rattle.star.specs.declared.refusals.Refusal.the-variants.{BooksDisagree, CallsSpent}
-use Rattle.star.specs.declared.refusals.Verdict.{Verdict}
-use Rattle.star.specs.declared.refusals.Verdict.the-variants.{Accepted, Refused}
-use Rattle.star.specs.Refusals.{refuse, short, spent, someCell}
-use Rattle.star.specs.Checks.{Ranges}
+use Rattle.star.specs.declared.refusals.Verdict.the-variants.{Accepted}
+use Rattle.star.specs.Refusals.{noticeOf}
+use Rattle.star.specs.Checks.{demandShortVerdict, demandAboveVerdict, Ranges}
 use Rattle.star.specs.Tables.{Square, Demands, Alike}
-use Rattle.star.proofs.RefusalLaws.{passes, never, passed, still-fires, still-passes, neither, neither-of, ranges-fit, in-ranges, within-range, none-above}
+use Rattle.star.proofs.RefusalLaws.{passes, in-numbers, passed, then-goes, then-passed, group-in-numbers, group-ends, ranges-in-numbers, either, neither, neither-of, ranges-fit, ranged, demand-fits, long-demand, demand-within, within}
 use Rattle.star.proofs.AlikeLaws.{alike-at, alike-above, both-long}
+use Rattle.planner.specs.Plans.{Lent, lentShortVerdict, LentRoom}
+use Rattle.planner.proofs.PlanLaws.{lent-fits, long-lent}
 use Rattle.books.specs.Books.{booksAgree, firstDisagreeing}
 use Rattle.books.specs.Rooms.{Tables}
 use Rattle.books.proofs.Agreements.{Agree, agreeing, none-disagreeing}
-use Rattle.calls.specs.declared.record.Run.{Run}
-use Rattle.calls.specs.Runs.{runShort, freshVerdict, postVerdict, frameVerdict}
-use Rattle.calls.specs.Checks.{booksVerdict}
+use Rattle.calls.specs.Held.{Held, LongEnough, HeldAlike}
+use Rattle.calls.specs.Checks.{heldShortVerdict, disagreeing, agreementVerdict, countVerdict}
+use Rattle.calls.specs.Runs.{freshVerdict, freshNotice, postVerdict, postNotice, frameVerdict, frameNotice}
 
 -- ---- 5
-long-enough : (room needed : ℕ) → short room needed ≡ false → needed ≤ room
-long-enough room needed e = ltb-false room needed e
+pub held-fits : {n : ℕ} {h : Held} → LongEnough n h → Accepted ≡ heldShortVerdict n (length (h .waiting)) (length (h .posted)) (length (h .sent)) (length (h .dropped))
+unfolding heldShortVerdict
+held-fits room = passes _ (neither _ _ (neither _ _ (neither _ _ (le-ltb _ _ (room .waiting)) (le-ltb _ _ (room .posted))) (le-ltb _ _ (room .sent))) (le-ltb _ _ (room .dropped))) refl
 
-module _ (n : ℕ) (waiting posted sent dropped : List ℕ) where
-  pub long-tables : n ≤ 64 → runShort n (length waiting) (length posted) (length sent) (length dropped) ≡ false → Tables n waiting posted sent dropped
-  long-tables few e =
-      let a = neither-of _ _ e in
-      let b = neither-of _ _ (a .0) in
-      let c = neither-of _ _ (b .0) in
-      record {
-        queues = record { nodes = few; cells = long-enough _ _ (c .0) };
-        postings = record { nodes = few; cells = long-enough _ _ (c .1) };
-        sendings = record { nodes = few; cells = long-enough _ _ (b .1) };
-        drops = record { nodes = few; cells = long-enough _ _ (a .1) };
-      }
+pub long-held : (n : ℕ) (h : Held) → heldShortVerdict n (length (h .waiting)) (length (h .posted)) (length (h .sent)) (length (h .dropped)) ≡ Accepted → LongEnough n h
+unfolding heldShortVerdict
+long-held n h e =
+    let a = neither-of _ _ (passed _ _ _ e .0) in
+    let b = neither-of _ _ (a .0) in
+    let c = neither-of _ _ (b .0) in
+    record { waiting = ltb-false _ _ (c .0); posted = ltb-false _ _ (c .1); sent = ltb-false _ _ (b .1); dropped = ltb-false _ _ (a .1) }
 
--- tables that are long enough pass
-pub tables-fit : (n : ℕ) {waiting posted sent dropped : ℕ} → n * n ≤ waiting → n * n ≤ posted → n * n ≤ sent → n * n ≤ dropped → runShort n waiting posted sent dropped ≡ false
-tables-fit n a b c d = neither _ _ (neither _ _ (neither _ _ (le-ltb _ _ a) (le-ltb _ _ b)) (le-ltb _ _ c)) (le-ltb _ _ d)
+-- what the work on the tables asks of them
+pub held-tables : {n : ℕ} {h : Held} → n ≤ 64 → LongEnough n h → Tables n (h .waiting) (h .posted) (h .sent) (h .dropped)
+held-tables few room = record {
+  queues = record { nodes = few; cells = room .waiting };
+  postings = record { nodes = few; cells = room .posted };
+  sendings = record { nodes = few; cells = room .sent };
+  drops = record { nodes = few; cells = room .dropped };
+}
 
--- ---- 8, 9
-module _ (n limit posts calls : ℕ) (waiting posted sent dropped : List ℕ) where
-  -- books that agree, and a call of which there were few
-  pub record InOrder : Type 0 where
-    pub books : (p : ℕ) → p < n * n → Agree limit posts (getD waiting p 0) (getD posted p 0) (getD sent p 0) (getD dropped p 0)
-    pub few : calls < 1000000
+-- ---- 8
+-- the books of each pair agree
+pub record Balanced (h : Held) : Type 0 where
+  pub books : (p : ℕ) → p < h .run .nodes * h .run .nodes → Agree (h .run .limit) (h .run .posts) (getD (h .waiting) p 0) (getD (h .posted) p 0) (getD (h .sent) p 0) (getD (h .dropped) p 0)
 
-  abbrev first : ℕ
-  first = firstDisagreeing n limit posts waiting posted sent dropped
+pub none-disagree : {h : Held} → Balanced h → disagreeing h ≡ h .run .nodes * h .run .nodes
+none-disagree {h} b = none-disagreeing (h .run .nodes) (h .run .limit) (h .run .posts) (h .waiting) (h .posted) (h .sent) (h .dropped) (b .books)
 
-  pub books-fire : {s : Refusal} {v : Verdict} (later : Verdict) → v ≡ booksVerdict n limit posts calls waiting posted sent dropped → v ≡ Refused s →
-      v ≡ refuse (someCell (n * n) first) (BooksDisagree first) (refuse (spent calls) CallsSpent later)
-  unfolding booksVerdict
-  books-fire later is fired = fired ∙ sym (still-fires _ _ (still-fires _ _ (λ e. absurd (never (sym e)))) (sym is ∙ fired))
+pub agreement-fits : {h : Held} → Balanced h → Accepted ≡ agreementVerdict h
+unfolding agreementVerdict
+agreement-fits b = passes _ (le-ltb _ _ (le-of-eq (sym (none-disagree b)))) refl
 
-  pub books-pass : {v w later : Verdict} → v ≡ booksVerdict n limit posts calls waiting posted sent dropped → v ≡ Accepted → w ≡ later →
-      w ≡ refuse (someCell (n * n) first) (BooksDisagree first) (refuse (spent calls) CallsSpent later)
-  unfolding booksVerdict
-  books-pass is accepted e = still-passes _ _ (still-passes _ _ (λ _. e)) (sym is ∙ accepted)
+pub balanced : (h : Held) → agreementVerdict h ≡ Accepted → Balanced h
+unfolding agreementVerdict
+balanced h e = record { books = agreeing (h .run .nodes) (h .run .limit) (h .run .posts) (h .waiting) (h .posted) (h .sent) (h .dropped) (ltb-false _ _ (passed _ _ _ e .0)) }
 
-  pub in-order : {later : Verdict} → refuse (someCell (n * n) first) (BooksDisagree first) (refuse (spent calls) CallsSpent later) ≡ Accepted → InOrder × (later ≡ Accepted)
-  in-order e =
-      let a = passed _ _ _ e in
-      let b = passed _ _ _ (a .1) in
-      (record { books = agreeing n limit posts waiting posted sent dropped (ltb-false _ _ (a .0)); few = leb-false 1000000 calls (b .0) }, b .1)
+-- ---- 9
+pub count-fits : {count : ℕ} → count < 1000000 → Accepted ≡ countVerdict count
+unfolding countVerdict
+count-fits {count} few = passes _ (lt-leb 1000000 count few) refl
 
-  -- books that agree, and a call of which there were few, pass
-  pub order-fits : {v later : Verdict} → InOrder → v ≡ later → v ≡ refuse (someCell (n * n) first) (BooksDisagree first) (refuse (spent calls) CallsSpent later)
-  order-fits o e =
-      passes _ (le-ltb _ _ (le-of-eq (sym (none-disagreeing n limit posts waiting posted sent dropped (o .books))))) (passes _ (lt-leb 1000000 calls (o .few)) e)
+pub counted : (count : ℕ) → countVerdict count ≡ Accepted → count < 1000000
+unfolding countVerdict
+counted count e = leb-false 1000000 count (passed _ _ _ e .0)
 
--- tables that agree in the cells needed have the same first pair whose books disagree
-pub alike-books : (n limit posts : ℕ) {w p s d x y z u : List ℕ} → Alike (n * n) w x → Alike (n * n) p y → Alike (n * n) s z → Alike (n * n) d u →
-    firstDisagreeing n limit posts w p s d ≡ firstDisagreeing n limit posts x y z u
-unfolding firstDisagreeing booksAgree
-alike-books n limit posts w p s d = first-ext (n * n) _ _ (λ q lt. rw (alike-at w q lt, alike-at p q lt, alike-at s q lt, alike-at d q lt) refl)
+-- ---- what agrees in the cells needed
+module _ {h g : Held} (same : HeldAlike (h .run .nodes) h g) where
+  alike-disagreeing : disagreeing h ≡ disagreeing g
+  unfolding firstDisagreeing booksAgree
+  alike-disagreeing =
+      rw (sym (same .run))
+      (first-ext (h .run .nodes * h .run .nodes) _ _ (λ q lt.
+      rw (alike-at (same .waiting) q lt, alike-at (same .posted) q lt, alike-at (same .sent) q lt, alike-at (same .dropped) q lt) refl))
+
+  alike-agreement : agreementVerdict h ≡ agreementVerdict g
+  unfolding agreementVerdict
+  alike-agreement = rw (alike-disagreeing, same .run) refl
+
+  alike-held-short :
+      heldShortVerdict (h .run .nodes) (length (h .waiting)) (length (h .posted)) (length (h .sent)) (length (h .dropped)) ≡
+      heldShortVerdict (h .run .nodes) (length (g .waiting)) (length (g .posted)) (length (g .sent)) (length (g .dropped))
+  unfolding heldShortVerdict
+  alike-held-short =
+      rw (
+        both-long (same .waiting .first-room) (same .waiting .second-room),
+        both-long (same .posted .first-room) (same .posted .second-room),
+        both-long (same .sent .first-room) (same .sent .second-room),
+        both-long (same .dropped .first-room) (same .dropped .second-room),
+      )
+      refl
+
+  pub alike-post : {a b : List ℕ} → Alike (h .run .nodes * h .run .nodes) a b → postVerdict a h ≡ postVerdict b g
+  unfolding postVerdict demandShortVerdict demandAboveVerdict
+  alike-post given = rw (both-long (given .first-room) (given .second-room), alike-held-short, alike-agreement, alike-above (h .run .nodes) given, same .run) refl
+
+  pub alike-frame : {k x : Lent} → LentRoom (h .run .nodes) (h .run .slots) k → LentRoom (h .run .nodes) (h .run .slots) x →
+      frameVerdict h (length (k .kept)) (length (k .withdrawn)) (length (k .schedule)) ≡ frameVerdict g (length (x .kept)) (length (x .withdrawn)) (length (x .schedule))
+  unfolding frameVerdict
+  alike-frame one other = rw (sym (lent-fits one) ∙ lent-fits other, alike-held-short, alike-agreement, same .run) refl
 
 -- ---- fresh
-pub fresh-accepts : (n l limit rule waiting posted sent dropped : ℕ) → Ranges n l rule limit → n * n ≤ waiting → n * n ≤ posted → n * n ≤ sent → n * n ≤ dropped →
-    Accepted ≡ freshVerdict n l limit rule waiting posted sent dropped
+pub fresh-accepts : {n l limit rule : ℕ} {h : Held} → Ranges n l rule limit → LongEnough n h →
+    Accepted ≡ freshVerdict n l limit rule (length (h .waiting)) (length (h .posted)) (length (h .sent)) (length (h .dropped))
 unfolding freshVerdict
-fresh-accepts n l limit rule waiting posted sent dropped r a b c d = ranges-fit n l rule limit r (passes _ (tables-fit n a b c d) refl)
+fresh-accepts {n} {l} {limit} {rule} r room = then-goes (ranges-fit n l rule limit r) refl (held-fits room)
 
-pub fresh-accepted : (n l limit rule : ℕ) (waiting posted sent dropped : List ℕ) →
-    freshVerdict n l limit rule (length waiting) (length posted) (length sent) (length dropped) ≡ Accepted →
-    (Ranges n l rule limit) × (Tables n waiting posted sent dropped)
+pub fresh-accepted : (n l limit rule : ℕ) (h : Held) → freshVerdict n l limit rule (length (h .waiting)) (length (h .posted)) (length (h .sent)) (length (h .dropped)) ≡ Accepted →
+    (Ranges n l rule limit) × (LongEnough n h)
 unfolding freshVerdict
-fresh-accepted n l limit rule waiting posted sent dropped e =
-    let a = in-ranges n l rule limit e in
-    (a .0, long-tables n waiting posted sent dropped (a .0 .nodes) (passed _ _ _ (a .1) .0))
+fresh-accepted n l limit rule h e =
+    let a = then-passed _ _ e in
+    (ranged n l rule limit (a .0), long-held n h (a .1))
+
+pub fresh-notice : (n l limit rule waiting posted sent dropped : ℕ) → noticeOf (freshVerdict n l limit rule waiting posted sent dropped) ≡ freshNotice n l limit rule waiting posted sent dropped
+unfolding freshVerdict freshNotice heldShortVerdict
+fresh-notice n l limit rule waiting posted sent dropped = ranges-in-numbers n l rule limit _ (in-numbers _ _ _ refl)
 
 -- ---- post
-module _ (old : Run) (arrivals waiting posted sent dropped : List ℕ) where
-  -- what an accepted post has passed
-  pub record PostFits : Type 0 where
-    pub ranges : Ranges (old .nodes) (old .slots) (old .rule) (old .limit)
-    pub given : Square (old .nodes) arrivals
-    pub tables : Tables (old .nodes) waiting posted sent dropped
-    pub order : InOrder (old .nodes) (old .limit) (old .posts) (old .posts) waiting posted sent dropped
-    pub within : Demands (old .nodes) arrivals
+-- what an accepted post has passed
+pub record PostFits (arrivals : List ℕ) (h : Held) : Type 0 where
+  pub ranges : Ranges (h .run .nodes) (h .run .slots) (h .run .rule) (h .run .limit)
+  pub given : Square (h .run .nodes) arrivals
+  pub long-enough : LongEnough (h .run .nodes) h
+  pub balanced : Balanced h
+  pub few : h .run .posts < 1000000
+  pub within : Demands (h .run .nodes) arrivals
 
-  pub post-accepted : postVerdict old arrivals waiting posted sent dropped ≡ Accepted → PostFits
-  unfolding postVerdict
-  post-accepted e =
-      let a = in-ranges (old .nodes) (old .slots) (old .rule) (old .limit) e in
-      let b = passed _ _ _ (a .1) in
-      let c = passed _ _ _ (b .1) in
-      let d = in-order (old .nodes) (old .limit) (old .posts) (old .posts) waiting posted sent dropped (c .1) in
-      record {
-        ranges = a .0;
-        given = record { nodes = a .0 .nodes; cells = long-enough _ _ (b .0) };
-        tables = long-tables (old .nodes) waiting posted sent dropped (a .0 .nodes) (c .0);
-        order = d .0;
-        within = within-range (old .nodes) arrivals (ltb-false _ _ (passed _ _ _ (d .1) .0));
-      }
-
-  pub post-accepts : PostFits → Accepted ≡ postVerdict old arrivals waiting posted sent dropped
-  unfolding postVerdict
-  post-accepts f =
-      ranges-fit (old .nodes) (old .slots) (old .rule) (old .limit) (f .ranges)
-      (passes _ (le-ltb _ _ (f .given .cells))
-      (passes _ (tables-fit (old .nodes) (f .tables .queues .cells) (f .tables .postings .cells) (f .tables .sendings .cells) (f .tables .drops .cells))
-      (order-fits (old .nodes) (old .limit) (old .posts) (old .posts) waiting posted sent dropped (f .order)
-      (passes _ (none-above (old .nodes) arrivals (f .within .most)) refl))))
-
-pub alike-posts : (old : Run) {a b w p s d x y z u : List ℕ} → Alike (old .nodes * old .nodes) a b → Alike (old .nodes * old .nodes) w x → Alike (old .nodes * old .nodes) p y →
-    Alike (old .nodes * old .nodes) s z → Alike (old .nodes * old .nodes) d u → postVerdict old a w p s d ≡ postVerdict old b x y z u
+pub post-accepted : (arrivals : List ℕ) (h : Held) → postVerdict arrivals h ≡ Accepted → PostFits arrivals h
 unfolding postVerdict
-alike-posts old a w p s d =
-    rw (
-      both-long (a .first-room) (a .second-room),
-      both-long (w .first-room) (w .second-room),
-      both-long (p .first-room) (p .second-room),
-      both-long (s .first-room) (s .second-room),
-      both-long (d .first-room) (d .second-room),
-      alike-books (old .nodes) (old .limit) (old .posts) w p s d,
-      alike-above (old .nodes) a,
-    )
-    refl
+post-accepted arrivals h e =
+    let a = then-passed _ _ e in
+    let b = then-passed _ _ (a .1) in
+    let c = then-passed _ _ (b .1) in
+    let d = then-passed _ _ (c .1) in
+    let f = then-passed _ _ (d .1) in
+    let r = ranged (h .run .nodes) (h .run .slots) (h .run .rule) (h .run .limit) (a .0) in
+    record {
+      ranges = r;
+      given = record { nodes = r .sizes .nodes; cells = long-demand (h .run .nodes) (length arrivals) (b .0) };
+      long-enough = long-held (h .run .nodes) h (c .0);
+      balanced = balanced h (d .0);
+      few = counted (h .run .posts) (f .0);
+      within = within (h .run .nodes) arrivals (f .1);
+    }
+
+pub post-accepts : {arrivals : List ℕ} {h : Held} → PostFits arrivals h → Accepted ≡ postVerdict arrivals h
+unfolding postVerdict
+post-accepts {arrivals} {h} fits =
+    then-goes (ranges-fit (h .run .nodes) (h .run .slots) (h .run .rule) (h .run .limit) (fits .ranges)) refl
+    (then-goes (demand-fits (h .run .nodes) (length arrivals) (fits .given .cells)) refl
+    (then-goes (held-fits (fits .long-enough)) refl
+    (then-goes (agreement-fits (fits .balanced)) refl
+    (then-goes (count-fits (fits .few)) refl
+    (demand-within (h .run .nodes) arrivals (fits .within))))))
+
+pub post-notice : (arrivals : List ℕ) (h : Held) → noticeOf (postVerdict arrivals h) ≡ postNotice arrivals h
+unfolding postVerdict postNotice demandShortVerdict heldShortVerdict agreementVerdict countVerdict demandAboveVerdict
+post-notice arrivals h =
+    ranges-in-numbers (h .run .nodes) (h .run .slots) (h .run .rule) (h .run .limit) _
+    (group-in-numbers _ _ _ _ (group-ends _
+    (group-in-numbers _ _ _ _ (group-ends _
+    (group-in-numbers _ _ _ _ (group-ends _
+    (group-in-numbers _ _ _ _ (group-ends _
+    (in-numbers _ _ _ refl)))))))))
 
 -- ---- frame
-module _ (old : Run) (waiting posted sent dropped : List ℕ) (kept withdrawn schedule : ℕ) where
-  -- what an accepted frame has passed
-  pub record FrameFits : Type 0 where
-    pub ranges : Ranges (old .nodes) (old .slots) (old .rule) (old .limit)
-    pub tables : Tables (old .nodes) waiting posted sent dropped
-    pub kept-room : old .nodes * old .nodes ≤ kept
-    pub withdrawn-room : old .nodes * old .nodes ≤ withdrawn
-    pub schedule-room : old .slots * old .nodes ≤ schedule
-    pub order : InOrder (old .nodes) (old .limit) (old .posts) (old .frames) waiting posted sent dropped
+-- what an accepted frame has passed
+pub record FrameFits (h : Held) (k : Lent) : Type 0 where
+  pub ranges : Ranges (h .run .nodes) (h .run .slots) (h .run .rule) (h .run .limit)
+  pub long-enough : LongEnough (h .run .nodes) h
+  pub tables : LentRoom (h .run .nodes) (h .run .slots) k
+  pub balanced : Balanced h
+  pub few : h .run .frames < 1000000
 
-  pub frame-accepted : frameVerdict old waiting posted sent dropped kept withdrawn schedule ≡ Accepted → FrameFits
-  unfolding frameVerdict
-  frame-accepted e =
-      let a = in-ranges (old .nodes) (old .slots) (old .rule) (old .limit) e in
-      let b = passed _ _ _ (a .1) in
-      let t = neither-of _ _ (b .0) in
-      let s = neither-of _ _ (t .1) in
-      let k = neither-of _ _ (s .0) in
-      record {
-        ranges = a .0;
-        tables = long-tables (old .nodes) waiting posted sent dropped (a .0 .nodes) (t .0);
-        kept-room = long-enough _ _ (k .0);
-        withdrawn-room = long-enough _ _ (k .1);
-        schedule-room = long-enough _ _ (s .1);
-        order = in-order (old .nodes) (old .limit) (old .posts) (old .frames) waiting posted sent dropped (b .1) .0;
-      }
-
-  pub frame-accepts : FrameFits → Accepted ≡ frameVerdict old waiting posted sent dropped kept withdrawn schedule
-  unfolding frameVerdict
-  frame-accepts f =
-      ranges-fit (old .nodes) (old .slots) (old .rule) (old .limit) (f .ranges)
-      (passes _
-      (neither _ _ (tables-fit (old .nodes) (f .tables .queues .cells) (f .tables .postings .cells) (f .tables .sendings .cells) (f .tables .drops .cells))
-      (neither _ _ (neither _ _ (le-ltb _ _ (f .kept-room)) (le-ltb _ _ (f .withdrawn-room))) (le-ltb _ _ (f .schedule-room))))
-      (order-fits (old .nodes) (old .limit) (old .posts) (old .frames) waiting posted sent dropped (f .order) refl))
-
-pub alike-frames : (old : Run) {w p s d x y z u : List ℕ} (k a q k₂ a₂ q₂ : ℕ) → Alike (old .nodes * old .nodes) w x → Alike (old .nodes * old .nodes) p y →
-    Alike (old .nodes * old .nodes) s z → Alike (old .nodes * old .nodes) d u →
-    (old .nodes * old .nodes ≤ k) × (old .nodes * old .nodes ≤ a) × (old .slots * old .nodes ≤ q) →
-    (old .nodes * old .nodes ≤ k₂) × (old .nodes * old .nodes ≤ a₂) × (old .slots * old .nodes ≤ q₂) → frameVerdict old w p s d k a q ≡ frameVerdict old x y z u k₂ a₂ q₂
+pub frame-accepted : (h : Held) (k : Lent) → frameVerdict h (length (k .kept)) (length (k .withdrawn)) (length (k .schedule)) ≡ Accepted → FrameFits h k
 unfolding frameVerdict
-alike-frames old k a q k₂ a₂ q₂ w p s d one other =
-    rw (
-      both-long (w .first-room) (w .second-room),
-      both-long (p .first-room) (p .second-room),
-      both-long (s .first-room) (s .second-room),
-      both-long (d .first-room) (d .second-room),
-      both-long (one .0) (other .0),
-      both-long (one .1) (other .1),
-      both-long (one .2) (other .2),
-      alike-books (old .nodes) (old .limit) (old .posts) w p s d,
-    )
-    refl
+frame-accepted h k e =
+    let a = then-passed _ _ e in
+    let b = then-passed _ _ (a .1) in
+    let c = then-passed _ _ (b .1) in
+    let d = then-passed _ _ (c .1) in
+    record {
+      ranges = ranged (h .run .nodes) (h .run .slots) (h .run .rule) (h .run .limit) (a .0);
+      long-enough = long-held (h .run .nodes) h (b .0);
+      tables = long-lent (h .run .nodes) (h .run .slots) k (c .0);
+      balanced = balanced h (d .0);
+      few = counted (h .run .frames) (d .1);
+    }
+
+pub frame-accepts : {h : Held} {k : Lent} → FrameFits h k → Accepted ≡ frameVerdict h (length (k .kept)) (length (k .withdrawn)) (length (k .schedule))
+unfolding frameVerdict
+frame-accepts {h} fits =
+    then-goes (ranges-fit (h .run .nodes) (h .run .slots) (h .run .rule) (h .run .limit) (fits .ranges)) refl
+    (then-goes (held-fits (fits .long-enough)) refl
+    (then-goes (lent-fits (fits .tables)) refl
+    (then-goes (agreement-fits (fits .balanced)) refl
+    (count-fits (fits .few)))))
+
+pub frame-notice : (h : Held) (kept withdrawn schedule : ℕ) → noticeOf (frameVerdict h kept withdrawn schedule) ≡ frameNotice h kept withdrawn schedule
+unfolding frameVerdict frameNotice heldShortVerdict lentShortVerdict agreementVerdict countVerdict
+frame-notice h kept withdrawn schedule =
+    ranges-in-numbers (h .run .nodes) (h .run .slots) (h .run .rule) (h .run .limit) _
+    (group-in-numbers _ _ _ _ (group-ends _
+    (group-in-numbers _ _ _ _ (group-ends _
+    (group-in-numbers _ _ _ _ (group-ends _
+    (in-numbers _ _ _ refl))))))
+    ∙ either _ _ 5 0 _)

@@ -1,9 +1,11 @@
 -- What is held between the calls of a run, and what each call makes of it.
 use Prim.Native.Nat.{ℕ, _+_, _*_, _≤_}
+use mathlib.Core.Path.{_≡_}
 use mathlib.Core.List.{List}
 use lib.ListN.{length}
 use Rattle.star.specs.declared.refusals.Verdict.{Verdict}
 use Rattle.star.specs.declared.refusals.Verdict.the-variants.{Accepted, Refused}
+use Rattle.star.specs.Tables.{Alike}
 use Rattle.books.specs.Queues.{zeroed, more, overflowed, queued, served}
 use Rattle.calls.specs.declared.record.Run.{Run}
 
@@ -24,6 +26,14 @@ pub record LongEnough (n : ℕ) (h : Held) : Type 0 where
   pub posted : n * n ≤ length (h .posted)
   pub sent : n * n ≤ length (h .sent)
   pub dropped : n * n ≤ length (h .dropped)
+
+-- the records are the same, and the tables agree as far as they are needed
+pub record HeldAlike (n : ℕ) (h g : Held) : Type 0 where
+  pub run : h .run ≡ g .run
+  pub waiting : Alike (n * n) (h .waiting) (g .waiting)
+  pub posted : Alike (n * n) (h .posted) (g .posted)
+  pub sent : Alike (n * n) (h .sent) (g .sent)
+  pub dropped : Alike (n * n) (h .dropped) (g .dropped)
 
 -- Fresh takes N, L, B and the rule, puts them in the record, and sets both counts and the N×N cells of waiting, posted, sent and dropped to 0.
 abbrev pub freshRun : (n l limit rule : ℕ) → Run

@@ -11,7 +11,7 @@ use Rattle.star.specs.Tables.{Alike}
 use Rattle.planner.specs.declared.answers.Answer.{Answer}
 use Rattle.planner.specs.Plans.{verdictOf, Lent, LentRoom, PlanResult}
 use Rattle.planner.specs.Theorems.{SameResults, SameAsNeeded}
-use Rattle.calls.specs.Held.{Held, LongEnough}
+use Rattle.calls.specs.Held.{Held, LongEnough, HeldAlike}
 use Rattle.calls.specs.Runs.{Freshened, Posted, Framed}
 
 -- ---- what is asked of a call that is to be accepted, in plain inequalities
@@ -26,14 +26,6 @@ pub record Callable (h : Held) : Type 0 where
   pub ranges : Ranges (h .run .nodes) (h .run .slots) (h .run .rule) (h .run .limit)
   pub long-enough : LongEnough (h .run .nodes) h
   pub books-in-order : BooksInOrder (h .run .nodes) h
-
--- ---- tables that agree as far as they are needed
-pub record HeldAlike (n : ℕ) (h k : Held) : Type 0 where
-  pub run : h .run ≡ k .run
-  pub waiting : Alike (n * n) (h .waiting) (k .waiting)
-  pub posted : Alike (n * n) (h .posted) (k .posted)
-  pub sent : Alike (n * n) (h .sent) (k .sent)
-  pub dropped : Alike (n * n) (h .dropped) (k .dropped)
 
 -- the four tables keep their lengths
 pub record SameLengths (h h' : Held) : Type 0 where

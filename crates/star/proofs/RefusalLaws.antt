@@ -15,7 +15,7 @@ use Rattle.star.specs.declared.refusals.Refusal.the-variants.{Nodes, Slo
 use Rattle.star.specs.declared.refusals.Verdict.{Verdict}
 use Rattle.star.specs.declared.refusals.Verdict.the-variants.{Accepted, Refused}
 use Rattle.star.specs.Tables.{Demands}
-use Rattle.star.specs.Refusals.{Notice, noticeOf, check, refusalNumber, refusalPlace, refuse, then, Promise, outside, someCell, firstAboveIn, firstAbove}
+use Rattle.star.specs.Refusals.{Notice, noticeOf, check, refusalNumber, refusalPlace, refuse, then, Promise, outside, nodesOut, slotsOut, ruleOut, limitOut, someCell, firstAboveIn, firstAbove}
 use Rattle.star.specs.Checks.{sizesVerdict, ruleVerdict, settingsVerdict, rangesVerdict, demandShortVerdict, demandAboveVerdict, Sizes, Ranges}
 
 pub fires : {b : Bool} {r : Refusal} (later : Verdict) → b ≡ true → Refused r ≡ refuse b r later
@@ -66,6 +66,17 @@ unfolding refuse check then
 group-in-numbers true r first later e = refl
 group-in-numbers false r first later e = e
 
+-- the end of a group ..
+pub group-ends : (later : Verdict) {rest : Notice} → noticeOf later ≡ rest → noticeOf (then Accepted later) ≡ rest
+unfolding then
+group-ends later e = e
+
+-- .. and a group of groups
+pub group-inside : (a b c : Verdict) {rest : Notice} → noticeOf (then a (then b c)) ≡ rest → noticeOf (then (then a b) c) ≡ rest
+unfolding then
+group-inside Accepted b c e = e
+group-inside (Refused r) b c e = e
+
 -- two checks that give one refusal are one
 pub either : (a b : Bool) (number place : ℕ) (later : Notice) → check a number place (check b number place later) ≡ check (a || b) number place later
 unfolding check
@@ -81,6 +92,12 @@ module _ {v due : Verdict} {numbers : Notice} (is : v ≡ due) (told : noticeOf 
   -- and what is accepted has been done
   pub promise-done : (s s' : S) → v ≡ Accepted → Done → Promise v due numbers s s' Done
   promise-done s s' ok done = record { answer = is; notice = ap noticeOf is ∙ told; accepted = λ _. done; refused = λ y q. absurd (never (sym q ∙ ok)) }
+
+-- two calls that keep one promise of the same input, which says what is held after an acceptance, give one verdict and leave the same
+pub promise-same : {S : Type 0} (v₁ : Verdict) {v₂ due : Verdict} {numbers : Notice} {before after₁ after₂ done : S} →
+    Promise v₁ due numbers before after₁ (after₁ ≡ done) → Promise v₂ due numbers before after₂ (after₂ ≡ done) → (v₁ ≡ v₂) × (after₁ ≡ after₂)
+promise-same Accepted c d = let e = c .answer ∙ sym (d .answer) in (e, c .accepted refl ∙ sym (d .accepted (sym e)))
+promise-same (Refused x) c d = let e = c .answer ∙ sym (d .answer) in (e, c .refused x refl ∙ sym (d .refused x (sym e)))
 
 -- ---- a number and its range
 pub too-low : (low high x : ℕ) → x < low → outside low high x ≡ true
@@ -143,6 +160,13 @@ ranged n l rule limit e =
     let b = then-passed _ _ (a .1) in
     let queue = in-its-range 1 65535 limit (passed _ _ _ (b .1) .0) in
     record { sizes = sized n l (a .0); known-rule = ruled rule (b .0); some-limit = queue .0; known-limit = queue .1 }
+
+pub ranges-in-numbers : (n l rule limit : ℕ) (later : Verdict) {rest : Notice} → noticeOf later ≡ rest →
+    noticeOf (then (rangesVerdict n l rule limit) later) ≡ check (nodesOut n) 1 0 (check (slotsOut l) 2 0 (check (ruleOut rule) 3 0 (check (limitOut limit) 7 0 rest)))
+unfolding rangesVerdict settingsVerdict ruleVerdict sizesVerdict
+ranges-in-numbers n l rule limit later e =
+    group-inside _ _ _ (group-in-numbers _ _ _ _ (group-in-numbers _ _ _ _ (group-ends _
+    (group-inside _ _ _ (group-in-numbers _ _ _ _ (group-ends _ (group-in-numbers _ _ _ _ (group-ends _ e))))))))
 
 -- ---- 4
 pub demand-fits : (n cells : ℕ) → n * n ≤ cells → Accepted ≡ demandShortVerdict n cells
