@@ -1,199 +1,142 @@
 -- The theorems on frames. An accepted frame has passed all checks of a plan, since no queue is longer than B; two such frames then agree as plans
--- do, and what waits and what was sent follows from kept. Assumes nothing.
-use Prim.Native.Nat.{ℕ, _+_, _-_, _*_, _≤_}
+-- do, and what is held follows from kept. Assumes nothing.
+use Prim.Native.Nat.{ℕ, _*_}
 use native.Mathlib.Omega.{arith}
-use mathlib.Core.Path.{_≡_, refl, sym, _∙_, ap}
-use mathlib.Core.List.{List}
-use lib.ListN.{length, getD, take}
-use Rattle.sums.specs.Tables.{tab, written}
+use mathlib.Core.Path.{_≡_, refl, sym, _∙_, ap, subst}
+use lib.ListN.{length, take}
 use Rattle.star.specs.declared.refusals.Refusal.{Refusal}
 use Rattle.star.specs.declared.refusals.Verdict.the-variants.{Accepted}
-use Rattle.star.specs.Refusals.{noticeOf}
-use Rattle.star.proofs.RefusalLaws.{never}
-use Rattle.star.proofs.AlikeLaws.{same-first, alike-at}
+use Rattle.star.specs.Tables.{Alike}
+use Rattle.star.proofs.RefusalLaws.{never, promise-done}
 use Rattle.planner.specs.declared.answers.Answer.{Answer}
 use Rattle.planner.specs.declared.answers.Answer.the-variants as answer
-use Rattle.planner.specs.Plans.{verdictOf, PlanResult}
-use Rattle.planner.specs.Theorems.{Agree, AgreeAsNeeded}
-use Rattle.planner.proofs.PlanLaws.{plan-notice}
-use Rattle.planner.proofs.PlanTheorems.{plan-accepts, plan-unique, plan-needed}
-use Rattle.calls.specs.declared.record.Run.{Run}
-use Rattle.calls.specs.Runs.{frameVerdict, frameRun, Framed}
-use Rattle.calls.proofs.Verdicts.{frame-accepts, frame-accepted, alike-frames}
-use Rattle.run.specs.Held.{Held, FrameCall}
-use Rattle.run.specs.Theorems.{HeldAlike, SameLengths, FramesAgree, FramesAgreeAsNeeded, FrameTheorems}
-use Rattle.run.proofs.CallLaws.{alike-by, length-by, held-same, lengths-same, alike-same, callable-tables, callable-order}
+use Rattle.planner.specs.Plans.{verdictOf, Lent, LentRoom, PlanResult}
+use Rattle.planner.specs.Theorems.{SameResults, SameAsNeeded}
+use Rattle.planner.proofs.PlanLaws.{plan-notice, plan-accepts}
+use Rattle.planner.proofs.PlanTheorems.{plan-theorems}
+use Rattle.books.proofs.QueueLaws.{more-length, served-length, more-alike, served-alike}
+use Rattle.calls.specs.Held.{Held, HeldAlike, frameRun, afterFrame}
+use Rattle.calls.specs.Runs.{Framed}
+use Rattle.calls.proofs.Verdicts.{frame-accepts, frame-accepted, alike-frame}
+use Rattle.calls.proofs.Outcomes.{frame-room}
+use Rattle.run.specs.Theorems.{SameLengths, SameFrames, SameFramesAsNeeded, FrameTheorems}
+use Rattle.run.proofs.CallLaws.{lengths-same, alike-same, callable-balanced}
 
-pub frame-planned : (old : Run) (w p s d k a q w' s' k' a' q' : List ℕ) (r : Answer) → Framed old w p s d k a q w' s' k' a' q' r → verdictOf r ≡ Accepted →
-    PlanResult (old .nodes) (old .slots) (old .rule) w k a q k' a' q' r
-frame-planned old w p s d k a q w' s' k' a' q' r f ok =
-    let fits = frame-accepted old w p s d (length k) (length a) (length q) (sym (f .answer) ∙ ok) in
-    let answered =
-    ok
-    ∙ plan-accepts (old .nodes) (old .slots) (old .rule) w (length k) (length a) (length q)
-    (record { some-nodes = fits .ranges .some-nodes; nodes = fits .ranges .nodes; some-slots = fits .ranges .some-slots; slots = fits .ranges .slots })
-    (fits .ranges .known-rule)
-    (fits .tables .queues .cells)
-    (fits .kept-room, fits .withdrawn-room, fits .schedule-room)
-    (λ c h. omega (arith, fits .order .books c h, fits .ranges .room)) in
-    record {
-      answer = answered;
-      notice = ap noticeOf answered ∙ plan-notice (old .nodes) (old .slots) (old .rule) w (length k) (length a) (length q);
-      accepted = λ _. f .accepted ok;
-      refused = λ x e. absurd (never (sym e ∙ ok));
-    }
+-- what a refused frame leaves: what is held, and what is lent
+frame-unchanged : {k k' : Lent} {h h' : Held} {x : Refusal} → Framed k k' h h' (answer.Refused x) → (h' ≡ h) × (k' ≡ k)
+frame-unchanged {x = x} c = let e = c .refused x refl in (ap (λ p. p .0) e, ap (λ p. p .1) e)
+
+pub frame-planned : (k k' : Lent) (h h' : Held) (r : Answer) → Framed k k' h h' r → verdictOf r ≡ Accepted → PlanResult (h .run .nodes) (h .run .slots) (h .run .rule) (h .waiting) k k' r
+frame-planned k k' h h' r c ok =
+    promise-done (ok ∙ plan-accepts (frame-room (frame-accepted h k (sym (c .answer) ∙ ok))))
+    (plan-notice (h .run .nodes) (h .run .slots) (h .run .rule) (h .waiting) (length (k .kept)) (length (k .withdrawn)) (length (k .schedule)))
+    k k' ok (c .accepted ok .plan)
 
 -- ---- two frames
-module _ (old : Run) (w p s d k a q w₁ s₁ k₁ a₁ q₁ w₂ s₂ k₂ a₂ q₂ : List ℕ) (r₁ r₂ : Answer) (f₁ : Framed old w p s d k a q w₁ s₁ k₁ a₁ q₁ r₁) (f₂ : Framed old w p s d k a q w₂ s₂ k₂ a₂ q₂ r₂)
-    (ok₁ : verdictOf r₁ ≡ Accepted) (ok₂ : verdictOf r₂ ≡ Accepted) where
-  plans-agree : Agree (old .nodes) (old .slots) (old .rule) w k a q k₁ a₁ q₁ k₂ a₂ q₂ r₁ r₂
-  plans-agree =
-      plan-unique (old .nodes) (old .slots) (old .rule) w k a q k₁ a₁ q₁ k₂ a₂ q₂ r₁ r₂ (frame-planned old w p s d k a q w₁ s₁ k₁ a₁ q₁ r₁ f₁ ok₁)
-      (frame-planned old w p s d k a q w₂ s₂ k₂ a₂ q₂ r₂ f₂ ok₂)
-
-  same-waiting : k₁ ≡ k₂ → w₁ ≡ w₂
-  same-waiting e =
-      f₁ .now-waiting ok₁
-      ∙ ap (λ x. written (old .nodes * old .nodes) (tab (old .nodes * old .nodes) (λ c. getD w c 0 - getD x c 0)) w) e
-      ∙ sym (f₂ .now-waiting ok₂)
-
-  same-sent : k₁ ≡ k₂ → s₁ ≡ s₂
-  same-sent e =
-      f₁ .now-sent ok₁
-      ∙ ap (λ x. written (old .nodes * old .nodes) (tab (old .nodes * old .nodes) (λ c. getD s c 0 + getD x c 0)) s) e
-      ∙ sym (f₂ .now-sent ok₂)
-
-  both-accepted : FramesAgree (old .rule) w₁ s₁ k₁ a₁ q₁ w₂ s₂ k₂ a₂ q₂ r₁ r₂
-  both-accepted = record {
-    verdicts = ok₁ ∙ sym ok₂;
-    kept-totals = plans-agree .kept-totals;
-    refused-totals = plans-agree .refused-totals;
-    refused-cells = λ x e. absurd (never (sym e ∙ ok₁));
-    fair-cells = λ ok e. let c = plans-agree .fair-cells ok e in (same-waiting (c .0), same-sent (c .0), c .0, c .1);
-    least-cells = λ ok e same. let c = plans-agree .least-cells ok e same in (same-waiting c, same-sent c, c);
-  }
-
-pub frame-unique : (old : Run) (w p s d k a q w₁ s₁ k₁ a₁ q₁ w₂ s₂ k₂ a₂ q₂ : List ℕ) (r₁ r₂ : Answer) → Framed old w p s d k a q w₁ s₁ k₁ a₁ q₁ r₁ →
-    Framed old w p s d k a q w₂ s₂ k₂ a₂ q₂ r₂ → FramesAgree (old .rule) w₁ s₁ k₁ a₁ q₁ w₂ s₂ k₂ a₂ q₂ r₁ r₂
-frame-unique old w p s d k a q w₁ s₁ k₁ a₁ q₁ w₂ s₂ k₂ a₂ q₂ (answer.Planned x y z) r₂ f₁ f₂ =
-    both-accepted old w p s d k a q w₁ s₁ k₁ a₁ q₁ w₂ s₂ k₂ a₂ q₂ (answer.Planned x y z) r₂ f₁ f₂ refl (f₂ .answer ∙ sym (f₁ .answer))
-frame-unique old w p s d k a q w₁ s₁ k₁ a₁ q₁ w₂ s₂ k₂ a₂ q₂ (answer.Refused x) (answer.Planned y z u) f₁ f₂ = absurd (never (f₁ .answer ∙ sym (f₂ .answer)))
-frame-unique old w p s d k a q w₁ s₁ k₁ a₁ q₁ w₂ s₂ k₂ a₂ q₂ (answer.Refused x) (answer.Refused y) f₁ f₂ =
-    let g₁ = f₁ .refused x refl in
-    let g₂ = f₂ .refused y refl in
+frame-unique : (k k₁ k₂ : Lent) (h h₁ h₂ : Held) (r₁ r₂ : Answer) → Framed k k₁ h h₁ r₁ → Framed k k₂ h h₂ r₂ → SameFrames (h .run .rule) k₁ k₂ h₁ h₂ r₁ r₂
+frame-unique k k₁ k₂ h h₁ h₂ (answer.Planned f) r₂ c d =
+    let e : verdictOf r₂ ≡ Accepted = d .answer ∙ sym (c .answer) in
+    let plans =
+    plan-theorems .unique (h .run .nodes) (h .run .slots) (h .run .rule) (h .waiting) k k₁ k₂ (answer.Planned f) r₂ (frame-planned k k₁ h h₁ (answer.Planned f) c refl) (frame-planned k k₂ h h₂ r₂ d e) in
+    let then-held : k₁ .kept ≡ k₂ .kept → h₁ ≡ h₂ = λ kept. c .accepted refl .after ∙ ap (λ x. afterFrame x h) kept ∙ sym (d .accepted e .after) in
     record {
-      verdicts = f₁ .answer ∙ sym (f₂ .answer);
-      kept-totals = refl;
-      refused-totals = refl;
-      refused-cells = λ z e. (g₁ .0 ∙ sym (g₂ .0), g₁ .1 ∙ sym (g₂ .1), g₁ .2 ∙ sym (g₂ .2), g₁ .3 ∙ sym (g₂ .3), g₁ .4 ∙ sym (g₂ .4));
-      fair-cells = λ ok e. absurd (never ok);
-      least-cells = λ ok e same. absurd (never ok);
+      plans = plans;
+      refused-held = λ x q. absurd (never (sym q));
+      fair-held = λ ok z. then-held (plans .fair-cells ok z .0);
+      least-held = λ ok u same. then-held (plans .least-cells ok u same);
+    }
+frame-unique k k₁ k₂ h h₁ h₂ (answer.Refused x) (answer.Planned f) c d = absurd (never (c .answer ∙ sym (d .answer)))
+frame-unique k k₁ k₂ h h₁ h₂ (answer.Refused x) (answer.Refused y) c d =
+    let one = frame-unchanged c in
+    let other = frame-unchanged d in
+    record {
+      plans = record {
+        verdicts = c .answer ∙ sym (d .answer);
+        kept-totals = refl;
+        refused-totals = refl;
+        refused-cells = λ z q. one .1 ∙ sym (other .1);
+        fair-cells = λ ok z. absurd (never ok);
+        least-cells = λ ok u same. absurd (never ok);
+      };
+      refused-held = λ z q. one .0 ∙ sym (other .0);
+      fair-held = λ ok z. absurd (never ok);
+      least-held = λ ok u same. absurd (never ok);
     }
 
--- ---- a frame on what is held
-module _ {k a q k' a' q' : List ℕ} {h h' : Held} where
-  -- a refused frame changes nothing
-  pub frame-unchanged : {x : Refusal} → FrameCall k a q k' a' q' h h' (answer.Refused x) → h ≡ h'
-  unfolding frameRun
-  frame-unchanged {x} c =
-      let same = c .tables .refused x refl in
-      held-same (sym (c .record')) (sym (same .0)) (sym (c .same-posted)) (sym (same .1)) (sym (c .same-dropped))
-
-  frame-lengths : (r : Answer) → FrameCall k a q k' a' q' h h' r → SameLengths h h' × (length k' ≡ length k) × (length a' ≡ length a) × (length q' ≡ length q)
-  frame-lengths (answer.Refused x) c =
-      let same = c .tables .refused x refl in
-      (lengths-same (frame-unchanged c), ap length (same .2), ap length (same .3), ap length (same .4))
-  frame-lengths (answer.Planned x y z) c =
-      let t = frame-accepted (h .run) (h .waiting) (h .posted) (h .sent) (h .dropped) (length k) (length a) (length q) (sym (c .tables .answer)) .tables in
-      let w = c .tables .accepted refl in (
-        record {
-          waiting = ap length (c .tables .now-waiting refl) ∙ length-by _ _ (h .waiting) (t .queues .cells);
-          posted = ap length (c .same-posted);
-          sent = ap length (c .tables .now-sent refl) ∙ length-by _ _ (h .sent) (t .sendings .cells);
-          dropped = ap length (c .same-dropped);
-        },
-        w .kept-length,
-        w .withdrawn-length,
-        w .schedule-length,
-      )
+pub frame-lengths : (k k' : Lent) (h h' : Held) (r : Answer) → Framed k k' h h' r →
+    SameLengths h h' × (length (k' .kept) ≡ length (k .kept)) × (length (k' .withdrawn) ≡ length (k .withdrawn)) × (length (k' .schedule) ≡ length (k .schedule))
+frame-lengths k k' h h' (answer.Refused x) c =
+    let same = frame-unchanged c in
+    (lengths-same (same .0), ap (λ y. length (y .kept)) (same .1), ap (λ y. length (y .withdrawn)) (same .1), ap (λ y. length (y .schedule)) (same .1))
+frame-lengths k k' h h' (answer.Planned f) c =
+    let room = frame-accepted h k (sym (c .answer)) .long-enough in
+    let done = c .accepted refl in (
+      subst (λ x. SameLengths h x) (sym (done .after)) (record {
+        waiting = served-length (h .run .nodes) (k' .kept) (h .waiting) (room .waiting);
+        posted = refl;
+        sent = more-length (h .run .nodes) (k' .kept) (h .sent) (room .sent);
+        dropped = refl;
+      }),
+      done .plan .wrote .kept-length,
+      done .plan .wrote .withdrawn-length,
+      done .plan .wrote .schedule-length,
+    )
 
 -- ---- two frames on what agrees in the cells needed
-module _ (k a q k₁ a₁ q₁ x b t k₂ a₂ q₂ : List ℕ) (h h' g g' : Held) (same : HeldAlike (h .run .nodes) h g) where
-  abbrev m : ℕ
-  m = h .run .nodes * h .run .nodes
-
+module _ (k k₁ x k₂ : Lent) (h h₁ g h₂ : Held) (same : HeldAlike (h .run .nodes) h g) (one : LentRoom (h .run .nodes) (h .run .slots) k) (other : LentRoom (h .run .nodes) (h .run .slots) x) where
   -- where both keep the same, what is held then agrees
-  module _ (r₁ r₂ : Answer) (c : FrameCall k a q k₁ a₁ q₁ h h' r₁) (d : FrameCall x b t k₂ a₂ q₂ g g' r₂) (ok₁ : verdictOf r₁ ≡ Accepted) (ok₂ : verdictOf r₂ ≡ Accepted) where
-    held-then : take m k₁ ≡ take m k₂ → HeldAlike (h .run .nodes) h' g'
-    held-then e = record {
-      run = c .record' ∙ ap (frameRun (h .run)) (ok₁ ∙ sym ok₂) ∙ ap (λ r. frameRun r (verdictOf r₂)) (same .run) ∙ sym (d .record');
-      waiting = rw (c .tables .now-waiting ok₁, d .tables .now-waiting ok₂, sym (same .run)) (alike-by m _ _ (h .waiting) (g .waiting) (λ p lt. rw (alike-at (same .waiting) p lt, same-first m k₁ k₂ e p lt) refl));
-      posted = rw (c .same-posted, d .same-posted) (same .posted);
-      sent = rw (c .tables .now-sent ok₁, d .tables .now-sent ok₂, sym (same .run)) (alike-by m _ _ (h .sent) (g .sent) (λ p lt. rw (alike-at (same .sent) p lt, same-first m k₁ k₂ e p lt) refl));
-      dropped = rw (c .same-dropped, d .same-dropped) (same .dropped);
-    }
+  module _ (r₁ r₂ : Answer) (c : Framed k k₁ h h₁ r₁) (d : Framed x k₂ g h₂ r₂) (ok₁ : verdictOf r₁ ≡ Accepted) (ok₂ : verdictOf r₂ ≡ Accepted) where
+    held-then : take (h .run .nodes * h .run .nodes) (k₁ .kept) ≡ take (h .run .nodes * h .run .nodes) (k₂ .kept) → HeldAlike (h .run .nodes) h₁ h₂
+    held-then e =
+        let kept : Alike (h .run .nodes * h .run .nodes) (k₁ .kept) (k₂ .kept) = record {
+          first-room = omega (arith, one .kept, c .accepted ok₁ .plan .wrote .kept-length);
+          second-room = omega (arith, other .kept, d .accepted ok₂ .plan .wrote .kept-length);
+          cells = e;
+        } in
+        alike-same (c .accepted ok₁ .after) (d .accepted ok₂ .after) (record {
+          run = ap frameRun (same .run);
+          waiting = rw (sym (same .run)) (served-alike (h .run .nodes) kept (same .waiting));
+          posted = same .posted;
+          sent = rw (sym (same .run)) (more-alike (h .run .nodes) kept (same .sent));
+          dropped = same .dropped;
+        })
 
     -- each is a plan of what waits
-    plans-alike : (m ≤ length k) × (m ≤ length a) × (h .run .slots * h .run .nodes ≤ length q) → (m ≤ length x) × (m ≤ length b) × (h .run .slots * h .run .nodes ≤ length t) →
-        AgreeAsNeeded (h .run .nodes) (h .run .rule) k₁ a₁ k₂ a₂ r₁ r₂
-    plans-alike one other =
-        plan-needed (h .run .nodes) (h .run .slots) (h .run .rule) (h .waiting) (g .waiting) k a q k₁ a₁ q₁ x b t k₂ a₂ q₂ r₁ r₂
-        (frame-planned (h .run) (h .waiting) (h .posted) (h .sent) (h .dropped) k a q (h' .waiting) (h' .sent) k₁ a₁ q₁ r₁ (c .tables) ok₁)
-        (rw (same .run) (frame-planned (g .run) (g .waiting) (g .posted) (g .sent) (g .dropped) x b t (g' .waiting) (g' .sent) k₂ a₂ q₂ r₂ (d .tables) ok₂))
+    plans-needed : SameAsNeeded (h .run .nodes) (h .run .rule) k₁ k₂ r₁ r₂
+    plans-needed =
+        plan-theorems .needed (h .run .nodes) (h .run .slots) (h .run .rule) (h .waiting) (g .waiting) k k₁ x k₂ r₁ r₂
+        (frame-planned k k₁ h h₁ r₁ c ok₁)
+        (subst (λ run. PlanResult (run .nodes) (run .slots) (run .rule) (g .waiting) x k₂ r₂) (sym (same .run)) (frame-planned x k₂ g h₂ r₂ d ok₂))
         (same .waiting)
         one
         other
 
-    both-needed : (m ≤ length k) × (m ≤ length a) × (h .run .slots * h .run .nodes ≤ length q) → (m ≤ length x) × (m ≤ length b) × (h .run .slots * h .run .nodes ≤ length t) →
-        FramesAgreeAsNeeded (h .run .nodes) (h .run .rule) h' g' k₁ a₁ k₂ a₂ r₁ r₂
-    both-needed one other =
-        let plans = plans-alike one other in
-        record {
-          verdicts = ok₁ ∙ sym ok₂;
-          kept-totals = plans .kept-totals;
-          refused-totals = plans .refused-totals;
-          refused-held = λ y e. absurd (never (sym e ∙ ok₁));
-          fair-cells = λ ok e. let first = plans .fair-cells ok e in (held-then (first .0), first .0, first .1);
-          least-cells = λ ok e withdrawn. let first = plans .least-cells ok e withdrawn in (held-then first, first);
-        }
-
-  frame-verdict : {r₁ r₂ : Answer} → FrameCall k a q k₁ a₁ q₁ h h' r₁ → FrameCall x b t k₂ a₂ q₂ g g' r₂ →
-      (m ≤ length k) × (m ≤ length a) × (h .run .slots * h .run .nodes ≤ length q) → (m ≤ length x) × (m ≤ length b) × (h .run .slots * h .run .nodes ≤ length t) → verdictOf r₁ ≡ verdictOf r₂
-  frame-verdict c d one other =
-      c .tables .answer
-      ∙ alike-frames (h .run) (length k) (length a) (length q) (length x) (length b) (length t) (same .waiting) (same .posted) (same .sent) (same .dropped) one other
-      ∙ ap (λ r. frameVerdict r (g .waiting) (g .posted) (g .sent) (g .dropped) (length x) (length b) (length t)) (same .run)
-      ∙ sym (d .tables .answer)
-
-  frame-needed : (r₁ r₂ : Answer) → verdictOf r₁ ≡ verdictOf r₂ → FrameCall k a q k₁ a₁ q₁ h h' r₁ → FrameCall x b t k₂ a₂ q₂ g g' r₂ →
-      (m ≤ length k) × (m ≤ length a) × (h .run .slots * h .run .nodes ≤ length q) → (m ≤ length x) × (m ≤ length b) × (h .run .slots * h .run .nodes ≤ length t) →
-      FramesAgreeAsNeeded (h .run .nodes) (h .run .rule) h' g' k₁ a₁ k₂ a₂ r₁ r₂
-  frame-needed (answer.Planned y z u) r₂ verdicts c d one other = both-needed (answer.Planned y z u) r₂ c d refl (sym verdicts) one other
-  frame-needed (answer.Refused y) (answer.Planned z u v) verdicts c d one other = absurd (never verdicts)
-  frame-needed (answer.Refused y) (answer.Refused z) verdicts c d one other = record {
-    verdicts = verdicts;
-    kept-totals = refl;
-    refused-totals = refl;
-    refused-held = λ u e. alike-same (frame-unchanged c) (frame-unchanged d) same;
-    fair-cells = λ ok e. absurd (never ok);
-    least-cells = λ ok e withdrawn. absurd (never ok);
+  frame-needed : (r₁ r₂ : Answer) → verdictOf r₁ ≡ verdictOf r₂ → Framed k k₁ h h₁ r₁ → Framed x k₂ g h₂ r₂ → SameFramesAsNeeded (h .run .nodes) (h .run .rule) k₁ k₂ h₁ h₂ r₁ r₂
+  frame-needed (answer.Planned f) r₂ verdicts c d =
+      let plans = plans-needed (answer.Planned f) r₂ c d refl (sym verdicts) in
+      let held = held-then (answer.Planned f) r₂ c d refl (sym verdicts) in
+      record {
+        plans = plans;
+        refused-held = λ y q. absurd (never (sym q));
+        fair-held = λ ok z. held (plans .plans ok .fair-cells z .0);
+        least-held = λ ok u withdrawn. held (plans .plans ok .least-cells u withdrawn);
+      }
+  frame-needed (answer.Refused y) (answer.Planned f) verdicts c d = absurd (never verdicts)
+  frame-needed (answer.Refused y) (answer.Refused z) verdicts c d = record {
+    plans = record { verdicts = verdicts; kept-totals = refl; refused-totals = refl; plans = λ ok. absurd (never ok) };
+    refused-held = λ u q. alike-same (frame-unchanged c .0) (frame-unchanged d .0) same;
+    fair-held = λ ok e. absurd (never ok);
+    least-held = λ ok e withdrawn. absurd (never ok);
   }
 
 pub frame-theorems : FrameTheorems
 frame-theorems = record {
-  accepts = λ k a q k' a' q' h h' r c callable kept withdrawn schedule few.
-      c .tables .answer
-      ∙ sym (frame-accepts (h .run) (h .waiting) (h .posted) (h .sent) (h .dropped) (length k) (length a) (length q) (record {
-        ranges = callable .ranges;
-        tables = callable-tables callable;
-        kept-room = kept;
-        withdrawn-room = withdrawn;
-        schedule-room = schedule;
-        order = callable-order callable few;
-      }));
+  accepts = λ k k' h h' r c callable room few.
+      c .answer
+      ∙ sym (frame-accepts (record { ranges = callable .ranges; long-enough = callable .long-enough; tables = room; balanced = callable-balanced callable; few = few }));
   planned = frame-planned;
   unique = frame-unique;
-  needed = λ k a q k₁ a₁ q₁ x b t k₂ a₂ q₂ h h' g g' r₁ r₂ c d same one other.
-      frame-needed k a q k₁ a₁ q₁ x b t k₂ a₂ q₂ h h' g g' same r₁ r₂ (frame-verdict k a q k₁ a₁ q₁ x b t k₂ a₂ q₂ h h' g g' same c d one other) c d one other;
-  lengths = λ k a q k' a' q' h h' r c. frame-lengths r c;
+  needed = λ k k₁ x k₂ h h₁ g h₂ r₁ r₂ c d same one other.
+      frame-needed k k₁ x k₂ h h₁ g h₂ same one other r₁ r₂ (c .answer ∙ alike-frame same one other ∙ sym (d .answer)) c d;
+  lengths = frame-lengths;
 }

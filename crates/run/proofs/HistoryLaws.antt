@@ -10,22 +10,21 @@ use lib.ListN.{length, getD}
 use borrow.Author.Tests.{le-ltb}
 use Rattle.sums.specs.Tables.{cell}
 use Rattle.sums.proofs.Tables.{place-split, at-place}
-use Rattle.star.specs.declared.refusals.Refusal.{Refusal}
 use Rattle.star.specs.declared.refusals.Refusal.the-variants.{BooksDisagree}
 use Rattle.star.specs.declared.refusals.Verdict.{Verdict}
 use Rattle.star.specs.declared.refusals.Verdict.the-variants.{Accepted, Refused}
-use Rattle.star.specs.Refusals.{refuse, refusalNumber, someCell}
+use Rattle.star.specs.Refusals.{Notice, noticeOf, check, someCell}
 use Rattle.star.proofs.RefusalLaws.{never}
 use Rattle.planner.specs.declared.answers.Answer.{Answer}
 use Rattle.planner.specs.declared.answers.Answer.the-variants as answer
-use Rattle.planner.specs.Plans.{verdictOf}
-use Rattle.books.specs.Books.{firstDisagreeing}
-use Rattle.books.proofs.Agreements.{Agree, none-disagreeing}
-use Rattle.calls.specs.Runs.{freshVerdict, postVerdict, frameVerdict}
-use Rattle.run.specs.Held.{Held, LongEnough, FreshCall, PostCall, FrameCall}
-use Rattle.run.specs.Histories.{Lent, Event, posting, framing, restarting, outcome, Happens, History, continued, queue, SendsMost, BooksHold}
+use Rattle.planner.specs.Plans.{verdictOf, Lent}
+use Rattle.books.proofs.Agreements.{Agree}
+use Rattle.calls.specs.Held.{Held, LongEnough}
+use Rattle.calls.specs.Checks.{disagreeing}
+use Rattle.calls.specs.Runs.{freshNotice, Freshened, postNotice, Posted, frameNotice, Framed}
+use Rattle.calls.proofs.Verdicts.{Balanced, none-disagree, frame-accepted}
+use Rattle.run.specs.Histories.{Event, posting, framing, restarting, outcome, Happens, History, continued, queue, SendsMost, BooksHold}
 use Rattle.run.specs.Theorems.{BooksInOrder, Callable}
-use Rattle.calls.proofs.Verdicts.{frame-accepted}
 use Rattle.run.proofs.SentLaws.{plan-most, met-ext}
 use Rattle.run.proofs.Moments.{Now, always, planned, sent-waited}
 
@@ -48,85 +47,87 @@ module _ {n l limit rule : ℕ} {es : List Event} {h : Held} (now : Now n l limi
         possible = omega (arith, at-place n (h .posted) p lt, now .posted i j (s .0) (s .1 .0), now .possible i j (s .0) (s .1 .0), now .posts);
       }
 
-  now-agree : firstDisagreeing n limit (h .run .posts) (h .waiting) (h .posted) (h .sent) (h .dropped) ≡ n * n
-  now-agree = none-disagreeing n limit (h .run .posts) (h .waiting) (h .posted) (h .sent) (h .dropped) all-agree
+  now-balanced : Balanced h
+  now-balanced = record { books = λ p lt. rw (now .limits) (all-agree p (rw (now .nodes) at lt)) }
 
-  agree-here : firstDisagreeing (h .run .nodes) (h .run .limit) (h .run .posts) (h .waiting) (h .posted) (h .sent) (h .dropped) ≡ h .run .nodes * h .run .nodes
-  agree-here = rw (now .nodes, now .room) now-agree
+  now-agree : disagreeing h ≡ n * n
+  now-agree = rw (sym (now .nodes)) (none-disagree now-balanced)
 
--- ---- refusal 8 does not come
--- where a check is passed, or gives another refusal, a later one gives refusal 8
-over : (b : Bool) (r : Refusal) (later : Verdict) {s : Refusal} → refuse b r later ≡ Refused s → b ≡ false → later ≡ Refused s
-unfolding refuse
-over true r later e passed = let z : _≡_ {A = ℕ} 0 1 = cc in absurd (omega arith)
-over false r later e passed = e
+-- ---- refusal 8 does not come: a check with another number, or one that is passed, leaves it to a later one to give 8
+other : (b : Bool) (number place : ℕ) (later : Notice) → check b number place later .number ≡ 8 → (number ≡ 8 → ⊥) → later .number ≡ 8
+unfolding check
+other true number place later e not-eight = absurd (not-eight e)
+other false number place later e not-eight = e
 
-other : (b : Bool) (r : Refusal) (later : Verdict) {p : ℕ} → refuse b r later ≡ Refused (BooksDisagree p) → (refusalNumber r ≡ 8 → ⊥) → later ≡ Refused (BooksDisagree p)
-unfolding refuse
-other true r later {p} e not-eight = let same : r ≡ BooksDisagree p = cc in absurd (not-eight (ap refusalNumber same))
-other false r later e not-eight = e
+over : (b : Bool) (number place : ℕ) (later : Notice) → check b number place later .number ≡ 8 → b ≡ false → later .number ≡ 8
+unfolding check
+over true number place later e passed = let z : _≡_ {A = ℕ} 0 1 = cc in absurd (omega arith)
+over false number place later e passed = e
 
-passes-books : {n l limit rule : ℕ} {es : List Event} {h : Held} → Now n l limit rule es h →
-    someCell (h .run .nodes * h .run .nodes) (firstDisagreeing (h .run .nodes) (h .run .limit) (h .run .posts) (h .waiting) (h .posted) (h .sent) (h .dropped)) ≡ false
-passes-books now = le-ltb _ _ (le-of-eq (sym (agree-here now)))
+passes-books : {n l limit rule : ℕ} {es : List Event} {h : Held} → Now n l limit rule es h → someCell (h .run .nodes * h .run .nodes) (disagreeing h) ≡ false
+passes-books now = le-ltb _ _ (le-of-eq (sym (none-disagree (now-balanced now))))
+
+-- the number that a refusal by 8 has
+eight : {v : Verdict} {numbers : Notice} {p : ℕ} → noticeOf v ≡ numbers → v ≡ Refused (BooksDisagree p) → numbers .number ≡ 8
+eight told e = ap (λ x. x .number) (sym told ∙ ap noticeOf e)
 
 module _ {n l limit rule : ℕ} {es : List Event} {h h' : Held} (now : Now n l limit rule es h) (p : ℕ) where
-  post-not-eight : {arrivals : List ℕ} {v : Verdict} → PostCall arrivals h h' v → v ≡ Refused (BooksDisagree p) → ⊥
-  unfolding postVerdict
+  post-not-eight : {arrivals : List ℕ} {v : Verdict} → Posted arrivals h h' v → v ≡ Refused (BooksDisagree p) → ⊥
+  unfolding postNotice
   post-not-eight c e =
-      let nodes = other _ _ _ (sym (c .tables .answer) ∙ e) (λ q. omega arith) in
-      let slots = other _ _ _ nodes (λ q. omega arith) in
-      let rules = other _ _ _ slots (λ q. omega arith) in
-      let limits = other _ _ _ rules (λ q. omega arith) in
-      let arrivals = other _ _ _ limits (λ q. omega arith) in
-      let tables = other _ _ _ arrivals (λ q. omega arith) in
-      let books = over _ _ _ tables (passes-books now) in
-      let calls = other _ _ _ books (λ q. omega arith) in
-      never (sym (other _ _ _ calls (λ q. omega arith)))
+      let nodes = other _ _ _ _ (eight (c .notice) e) (λ q. omega arith) in
+      let slots = other _ _ _ _ nodes (λ q. omega arith) in
+      let rules = other _ _ _ _ slots (λ q. omega arith) in
+      let limits = other _ _ _ _ rules (λ q. omega arith) in
+      let arrivals = other _ _ _ _ limits (λ q. omega arith) in
+      let tables = other _ _ _ _ arrivals (λ q. omega arith) in
+      let books = over _ _ _ _ tables (passes-books now) in
+      let count = other _ _ _ _ books (λ q. omega arith) in
+      let last = other _ _ _ _ count (λ q. omega arith) in
+      omega (arith, last)
 
-  frame-not-eight : (lent plan : Lent) {r : Answer} →
-      FrameCall (lent .kept) (lent .withdrawn) (lent .schedule) (plan .kept) (plan .withdrawn) (plan .schedule) h h' r → verdictOf r ≡ Refused (BooksDisagree p) → ⊥
-  unfolding frameVerdict
-  frame-not-eight lent plan c e =
-      let nodes = other _ _ _ (sym (c .tables .answer) ∙ e) (λ q. omega arith) in
-      let slots = other _ _ _ nodes (λ q. omega arith) in
-      let rules = other _ _ _ slots (λ q. omega arith) in
-      let limits = other _ _ _ rules (λ q. omega arith) in
-      let tables = other _ _ _ limits (λ q. omega arith) in
-      let books = over _ _ _ tables (passes-books now) in
-      never (sym (other _ _ _ books (λ q. omega arith)))
+  frame-not-eight : {lent plan : Lent} {r : Answer} → Framed lent plan h h' r → verdictOf r ≡ Refused (BooksDisagree p) → ⊥
+  unfolding frameNotice
+  frame-not-eight c e =
+      let nodes = other _ _ _ _ (eight (c .notice) e) (λ q. omega arith) in
+      let slots = other _ _ _ _ nodes (λ q. omega arith) in
+      let rules = other _ _ _ _ slots (λ q. omega arith) in
+      let limits = other _ _ _ _ rules (λ q. omega arith) in
+      let tables = other _ _ _ _ limits (λ q. omega arith) in
+      let books = over _ _ _ _ tables (passes-books now) in
+      let last = other _ _ _ _ books (λ q. omega arith) in
+      omega (arith, last)
 
 -- a fresh start does not look at the books
-fresh-not-eight : {n l limit rule p : ℕ} {h h' : Held} {v : Verdict} → FreshCall n l limit rule h h' v → v ≡ Refused (BooksDisagree p) → ⊥
-unfolding freshVerdict
+fresh-not-eight : {n l limit rule p : ℕ} {h h' : Held} {v : Verdict} → Freshened n l limit rule h h' v → v ≡ Refused (BooksDisagree p) → ⊥
+unfolding freshNotice
 fresh-not-eight c e =
-    let nodes = other _ _ _ (sym (c .tables .answer) ∙ e) (λ q. omega arith) in
-    let slots = other _ _ _ nodes (λ q. omega arith) in
-    let rules = other _ _ _ slots (λ q. omega arith) in
-    let limits = other _ _ _ rules (λ q. omega arith) in
-    never (sym (other _ _ _ limits (λ q. omega arith)))
+    let nodes = other _ _ _ _ (eight (c .notice) e) (λ q. omega arith) in
+    let slots = other _ _ _ _ nodes (λ q. omega arith) in
+    let rules = other _ _ _ _ slots (λ q. omega arith) in
+    let limits = other _ _ _ _ rules (λ q. omega arith) in
+    let last = other _ _ _ _ limits (λ q. omega arith) in
+    omega (arith, last)
 
 happens-not-eight : {n l limit rule : ℕ} {es : List Event} {h : Held} → Now n l limit rule es h → (p : ℕ) (e : Event) (h' : Held) → Happens e h h' → outcome e ≡ Refused (BooksDisagree p) → ⊥
 happens-not-eight now p (posting arrivals v) h' c = post-not-eight now p c
-happens-not-eight now p (framing lent plan r) h' c = frame-not-eight now p lent plan c
+happens-not-eight now p (framing lent plan r) h' c = frame-not-eight now p c
 happens-not-eight now p (restarting n l limit rule x) h' c = fresh-not-eight c
 
 -- ---- the theorem
 module _ {n l limit rule : ℕ} where
-  sends-most : {es : List Event} (lent plan : Lent) (r : Answer) {h h' : Held} → Now n l limit rule es h →
-      FrameCall (lent .kept) (lent .withdrawn) (lent .schedule) (plan .kept) (plan .withdrawn) (plan .schedule) h h' r → verdictOf r ≡ Accepted → rule ≡ 1 →
+  sends-most : {es : List Event} (lent plan : Lent) (r : Answer) {h h' : Held} → Now n l limit rule es h → Framed lent plan h h' r → verdictOf r ≡ Accepted → rule ≡ 1 →
       SendsMost n l (queue n l limit es) (plan .schedule)
-  sends-most {es = es} lent plan (answer.Planned k f d) {h = h} now c e least = record {
+  sends-most {es = es} lent plan (answer.Planned f) {h = h} now c e least = record {
     whole =
-        let fits = frame-accepted (h .run) (h .waiting) (h .posted) (h .sent) (h .dropped) (length (lent .kept)) (length (lent .withdrawn)) (length (lent .schedule)) (sym (c .tables .answer)) in
-        let room : l * n ≤ length (lent .schedule) = rw (now .nodes, now .slots) at (fits .schedule-room) in
-        omega (arith, room, planned lent plan now c .schedule-length);
-    waited = λ i j hi hj. omega (arith, sent-waited lent plan now c i j hi hj, now .waiting i j hi hj);
+        let room : l * n ≤ length (lent .schedule) = rw (now .nodes, now .slots) at (frame-accepted h lent (sym (c .answer)) .tables .schedule) in
+        omega (arith, room, planned now c .wrote .schedule-length);
+    waited = λ i j hi hj. omega (arith, sent-waited now c i j hi hj, now .waiting i j hi hj);
     most = λ other free.
         omega (
           arith,
           met-ext n l (cell n (h .waiting)) (queue n l limit es) other (now .waiting),
-          plan-most (rw least at (planned lent plan now c .plan)) other free,
+          plan-most (rw least at (planned now c .wrote .plan)) other free,
         );
   }
   sends-most lent plan (answer.Refused r) now c e least = absurd (never e)
@@ -135,7 +136,7 @@ module _ {n l limit rule : ℕ} where
   books-hold {es} {h} past = let now = always past in record {
     nodes = now .nodes;
     slots = now .slots;
-    room = now .room;
+    limits = now .limits;
     rules = now .rules;
     posts = now .posts;
     frames = now .frames;
@@ -157,12 +158,12 @@ module _ {n l limit rule : ℕ} where
   -- at every moment what is held is as a call asks
   pub always-callable : {es : List Event} {h : Held} → History n l limit rule es h → Callable h
   always-callable {h = h} past = let now = always past in record {
-    ranges = rw (now .nodes, now .slots, now .rules, now .room) (now .ranges);
+    ranges = rw (now .nodes, now .slots, now .rules, now .limits) (now .ranges);
     long-enough = subst (λ m. LongEnough m h) (sym (now .nodes)) (now .long-enough);
     books-in-order =
         subst (λ m. BooksInOrder m h) (sym (now .nodes))
         (record {
-          queued = λ p lt. omega (arith, all-agree now p lt .short-enough, now .room);
+          queued = λ p lt. omega (arith, all-agree now p lt .short-enough, now .limits);
           balanced = λ p lt. all-agree now p lt .balance;
           possible = λ p lt. all-agree now p lt .possible;
         });

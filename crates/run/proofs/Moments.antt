@@ -6,37 +6,25 @@ use Prim.Native.Nat.{ℕ, _+_, _-_, _*_, _≤_, _<_, min}
 use native.Mathlib.Omega.{arith}
 use mathlib.Core.Path.{_≡_, refl, sym, _∙_, ap, subst}
 use mathlib.Core.List.{List, [], _∷_}
-use lib.ListN.{length, getD, replicate, length-replicate, getD-replicate}
-use Rattle.sums.specs.Tables.{cell, tab, written}
-use Rattle.sums.proofs.Tables.{cell-lt, length-tab, tab-at, written-at, written-room}
+use Rattle.sums.specs.Tables.{cell}
+use Rattle.sums.proofs.Tables.{cell-lt}
 use Rattle.star.specs.declared.refusals.Refusal.{Refusal}
 use Rattle.star.specs.declared.refusals.Verdict.the-variants.{Accepted, Refused}
 use Rattle.star.specs.Checks.{Ranges}
 use Rattle.star.specs.Lines.{wholeFrame}
 use Rattle.star.specs.Schedules.{count}
+use Rattle.planner.specs.declared.answers.Report.{Report}
 use Rattle.planner.specs.declared.answers.Answer.the-variants as answer
-use Rattle.planner.specs.Plans.{Wrote}
-use Rattle.calls.specs.Runs.{freshRun, cleared, postRun, postPosted, postDropped, postWaiting, frameRun}
-use Rattle.run.specs.Held.{Held, LongEnough, FreshCall, PostCall, FrameCall}
-use Rattle.run.specs.Histories.{Lent, Event, posting, framing, restarting, Happens, History, started, continued, arrived, carried, queue, exceeded, postsOf, framesOf}
-use Rattle.calls.proofs.Verdicts.{fresh-accepted, post-accepted}
+use Rattle.planner.specs.Plans.{Lent, PlanDone}
 use Rattle.planner.proofs.PlanLaws.{plan-below}
-use Rattle.run.proofs.CallLaws.{fresh-unchanged, post-unchanged}
-use Rattle.run.proofs.FrameLaws.{frame-unchanged}
-
--- ---- a pair of a table that was written by a rule
-module _ (n : ℕ) (f : ℕ → ℕ) (old : List ℕ) (i j : ℕ) (hi : i < n) (hj : j < n) where
-  rule-cell : cell n (written (n * n) (tab (n * n) f) old) i j ≡ f (i * n + j)
-  unfolding cell
-  rule-cell = written-at (n * n) (tab (n * n) f) old (length-tab f (n * n)) (i * n + j) (cell-lt n i j hi hj) ∙ tab-at f (n * n) (i * n + j) 0 (cell-lt n i j hi hj)
-
-  zero-cell : cell n (written (n * n) (replicate (n * n) 0) old) i j ≡ 0
-  unfolding cell
-  zero-cell = written-at (n * n) (replicate (n * n) 0) old (length-replicate (n * n) 0) (i * n + j) (cell-lt n i j hi hj) ∙ getD-replicate (n * n) (i * n + j) 0 0 (cell-lt n i j hi hj)
-
--- a table that was written by a rule has a cell for each pair
-new-room : (m : ℕ) (f : ℕ → ℕ) (old : List ℕ) {t : List ℕ} → t ≡ written m (tab m f) old → m ≤ length t
-new-room m f old e = rw e (written-room m (tab m f) old (length-tab f m))
+use Rattle.books.specs.Queues.{more, overflowed, queued, served}
+use Rattle.books.proofs.QueueLaws.{zeroed-cell, more-cell, overflowed-cell, queued-cell, served-cell}
+use Rattle.calls.specs.Held.{Held, LongEnough, afterFresh, afterPost, afterFrame}
+use Rattle.calls.specs.Runs.{Freshened, Posted, Framed}
+use Rattle.calls.proofs.Verdicts.{fresh-accepted, post-accepted}
+use Rattle.run.specs.Histories.{Event, posting, framing, restarting, Happens, History, started, continued, arrived, carried, queue, exceeded, postsOf, framesOf}
+use Rattle.run.proofs.CallLaws.{still-long, fresh-lengths, post-lengths}
+use Rattle.run.proofs.FrameLaws.{frame-lengths}
 
 -- ---- what holds at a moment
 pub record Now (n l limit rule : ℕ) (es : List Event) (h : Held) : Type 0 where
@@ -44,7 +32,7 @@ pub record Now (n l limit rule : ℕ) (es : List Event) (h : Held) : Type 0 wher
   pub long-enough : LongEnough n h
   pub nodes : h .run .nodes ≡ n
   pub slots : h .run .slots ≡ l
-  pub room : h .run .limit ≡ limit
+  pub limits : h .run .limit ≡ limit
   pub rules : h .run .rule ≡ rule
   pub posts : h .run .posts ≡ postsOf es
   pub frames : h .run .frames ≡ framesOf es
@@ -57,39 +45,28 @@ pub record Now (n l limit rule : ℕ) (es : List Event) (h : Held) : Type 0 wher
   pub possible : (i j : ℕ) → i < n → j < n → arrived n es i j ≤ 65535 * postsOf es
 
 -- ---- the start
-module _ {n l limit rule : ℕ} {h h' : Held} (c : FreshCall n l limit rule h h' Accepted) where
-  start-cell : (t : List ℕ) {t' : List ℕ} → t' ≡ cleared n t Accepted → (i j : ℕ) → i < n → j < n → cell n t' i j ≡ 0
-  unfolding cleared
-  start-cell t e i j hi hj = ap (λ x. cell n x i j) e ∙ zero-cell n (λ p. 0) t i j hi hj
-
-  start-room : (t : List ℕ) {t' : List ℕ} → t' ≡ cleared n t Accepted → n * n ≤ length t'
-  unfolding cleared
-  start-room t e = rw e (written-room (n * n) (replicate (n * n) 0) t (length-replicate (n * n) 0))
-
-  now-started : Now n l limit rule [] h'
-  unfolding freshRun arrived carried queue exceeded postsOf framesOf
-  now-started = record {
-    ranges = fresh-accepted n l limit rule (h .waiting) (h .posted) (h .sent) (h .dropped) (sym (c .tables .answer)) .0;
-    long-enough = record {
-      waiting = start-room (h .waiting) (c .tables .now-waiting);
-      posted = start-room (h .posted) (c .tables .now-posted);
-      sent = start-room (h .sent) (c .tables .now-sent);
-      dropped = start-room (h .dropped) (c .tables .now-dropped);
-    };
-    nodes = ap (λ r. r .nodes) (c .record');
-    slots = ap (λ r. r .slots) (c .record');
-    room = ap (λ r. r .limit) (c .record');
-    rules = ap (λ r. r .rule) (c .record');
-    posts = ap (λ r. r .posts) (c .record');
-    frames = ap (λ r. r .frames) (c .record');
-    posted = start-cell (h .posted) (c .tables .now-posted);
-    sent = start-cell (h .sent) (c .tables .now-sent);
-    dropped = start-cell (h .dropped) (c .tables .now-dropped);
-    waiting = start-cell (h .waiting) (c .tables .now-waiting);
-    short-enough = λ i j hi hj. omega arith;
-    balance = λ i j hi hj. omega arith;
-    possible = λ i j hi hj. omega arith;
-  }
+now-started : {n l limit rule : ℕ} {h h' : Held} → Freshened n l limit rule h h' Accepted → Now n l limit rule [] h'
+unfolding arrived carried queue exceeded postsOf framesOf
+now-started {n} {l} {limit} {rule} {h} c =
+    let passed = fresh-accepted n l limit rule h (sym (c .answer)) in
+    let done = c .accepted refl in
+    record {
+      ranges = passed .0;
+      long-enough = still-long (passed .1) (fresh-lengths Accepted c);
+      nodes = ap (λ x. x .run .nodes) done;
+      slots = ap (λ x. x .run .slots) done;
+      limits = ap (λ x. x .run .limit) done;
+      rules = ap (λ x. x .run .rule) done;
+      posts = ap (λ x. x .run .posts) done;
+      frames = ap (λ x. x .run .frames) done;
+      posted = λ i j hi hj. ap (λ x. cell n (x .posted) i j) done ∙ zeroed-cell n i j hi hj (h .posted);
+      sent = λ i j hi hj. ap (λ x. cell n (x .sent) i j) done ∙ zeroed-cell n i j hi hj (h .sent);
+      dropped = λ i j hi hj. ap (λ x. cell n (x .dropped) i j) done ∙ zeroed-cell n i j hi hj (h .dropped);
+      waiting = λ i j hi hj. ap (λ x. cell n (x .waiting) i j) done ∙ zeroed-cell n i j hi hj (h .waiting);
+      short-enough = λ i j hi hj. omega arith;
+      balance = λ i j hi hj. omega arith;
+      possible = λ i j hi hj. omega arith;
+    }
 
 -- ---- a refused event: the events say of each pair what they said before, and nothing that is held changes
 record Unmoved (n l limit : ℕ) (e : Event) (es : List Event) : Type 0 where
@@ -134,13 +111,13 @@ module _ (n l limit : ℕ) (es : List Event) where
     same-frames = refl;
   }
 
-now-unmoved : {n l limit rule : ℕ} {e : Event} {es : List Event} {h h' : Held} → Unmoved n l limit e es → h ≡ h' → Now n l limit rule es h → Now n l limit rule (e ∷ es) h'
-now-unmoved {n} {l} {limit} {rule} {e} {es} {h} u same now = subst (λ k. Now n l limit rule (e ∷ es) k) same (record {
+now-unmoved : {n l limit rule : ℕ} {e : Event} {es : List Event} {h h' : Held} → Unmoved n l limit e es → h' ≡ h → Now n l limit rule es h → Now n l limit rule (e ∷ es) h'
+now-unmoved {n} {l} {limit} {rule} {e} {es} {h} u same now = subst (λ x. Now n l limit rule (e ∷ es) x) (sym same) (record {
   ranges = now .ranges;
   long-enough = now .long-enough;
   nodes = now .nodes;
   slots = now .slots;
-  room = now .room;
+  limits = now .limits;
   rules = now .rules;
   posts = now .posts ∙ sym (u .same-posts);
   frames = now .frames ∙ sym (u .same-frames);
@@ -154,111 +131,109 @@ now-unmoved {n} {l} {limit} {rule} {e} {es} {h} u same now = subst (λ k. Now n 
 })
 
 -- ---- a post
-module _ {n l limit rule : ℕ} {es : List Event} {arrivals : List ℕ} {h h' : Held} (now : Now n l limit rule es h) where
-  module _ (c : PostCall arrivals h h' Accepted) where
-    more-posted : (i j : ℕ) → i < n → j < n → cell n (h' .posted) i j ≡ cell n (h .posted) i j + cell n arrivals i j
-    unfolding postPosted cell
-    more-posted i j hi hj = ap (λ t. cell n t i j) (rw (now .nodes) at (c .tables .now-posted)) ∙ rule-cell n (λ p. getD (h .posted) p 0 + getD arrivals p 0) (h .posted) i j hi hj
+module _ {n l limit rule : ℕ} {es : List Event} {arrivals : List ℕ} {h h' : Held} (now : Now n l limit rule es h) (c : Posted arrivals h h' Accepted) (i j : ℕ) (hi : i < n) (hj : j < n) where
+  more-posted : cell n (h' .posted) i j ≡ cell n (h .posted) i j + cell n arrivals i j
+  more-posted = ap (λ x. cell n (x .posted) i j) (c .accepted refl) ∙ ap (λ m. cell n (more m arrivals (h .posted)) i j) (now .nodes) ∙ more-cell n i j hi hj arrivals (h .posted)
 
-    more-dropped : (i j : ℕ) → i < n → j < n → cell n (h' .dropped) i j ≡ cell n (h .dropped) i j + (cell n (h .waiting) i j + cell n arrivals i j - limit)
-    unfolding postDropped cell
-    more-dropped i j hi hj =
-        ap (λ t. cell n t i j) (rw (now .nodes, now .room) at (c .tables .now-dropped))
-        ∙ rule-cell n (λ p. getD (h .dropped) p 0 + (getD (h .waiting) p 0 + getD arrivals p 0 - limit)) (h .dropped) i j hi hj
+  more-dropped : cell n (h' .dropped) i j ≡ cell n (h .dropped) i j + (cell n (h .waiting) i j + cell n arrivals i j - limit)
+  more-dropped =
+      ap (λ x. cell n (x .dropped) i j) (c .accepted refl)
+      ∙ ap (λ m. cell n (overflowed m (h .run .limit) arrivals (h .waiting) (h .dropped)) i j) (now .nodes)
+      ∙ ap (λ b. cell n (overflowed n b arrivals (h .waiting) (h .dropped)) i j) (now .limits)
+      ∙ overflowed-cell n i j hi hj limit arrivals (h .waiting) (h .dropped)
 
-    more-waiting : (i j : ℕ) → i < n → j < n → cell n (h' .waiting) i j ≡ min (cell n (h .waiting) i j + cell n arrivals i j) limit
-    unfolding postWaiting cell
-    more-waiting i j hi hj =
-        ap (λ t. cell n t i j) (rw (now .nodes, now .room) at (c .tables .now-waiting))
-        ∙ rule-cell n (λ p. min (getD (h .waiting) p 0 + getD arrivals p 0) limit) (h .waiting) i j hi hj
+  more-waiting : cell n (h' .waiting) i j ≡ min (cell n (h .waiting) i j + cell n arrivals i j) limit
+  more-waiting =
+      ap (λ x. cell n (x .waiting) i j) (c .accepted refl)
+      ∙ ap (λ m. cell n (queued m (h .run .limit) arrivals (h .waiting)) i j) (now .nodes)
+      ∙ ap (λ b. cell n (queued n b arrivals (h .waiting)) i j) (now .limits)
+      ∙ queued-cell n i j hi hj limit arrivals (h .waiting)
 
-    arrival-most : (i j : ℕ) → i < n → j < n → cell n arrivals i j ≤ 65535
-    unfolding cell
-    arrival-most i j hi hj =
-        (rw (now .nodes) at (post-accepted (h .run) arrivals (h .waiting) (h .posted) (h .sent) (h .dropped) (sym (c .tables .answer)) .within)) .most (i * n + j) (cell-lt n i j hi hj)
+  same-sent : cell n (h' .sent) i j ≡ cell n (h .sent) i j
+  same-sent = ap (λ x. cell n (x .sent) i j) (c .accepted refl)
 
-    now-posted : Now n l limit rule (posting arrivals Accepted ∷ es) h'
-    unfolding postRun postWaiting postPosted postDropped arrived carried queue exceeded postsOf framesOf
-    now-posted = record {
-      ranges = now .ranges;
-      long-enough = record {
-        waiting = new-room _ _ _ (rw (now .nodes) at (c .tables .now-waiting));
-        posted = new-room _ _ _ (rw (now .nodes) at (c .tables .now-posted));
-        sent = rw (c .same-sent) (now .long-enough .sent);
-        dropped = new-room _ _ _ (rw (now .nodes) at (c .tables .now-dropped));
-      };
-      nodes = ap (λ r. r .nodes) (c .record') ∙ now .nodes;
-      slots = ap (λ r. r .slots) (c .record') ∙ now .slots;
-      room = ap (λ r. r .limit) (c .record') ∙ now .room;
-      rules = ap (λ r. r .rule) (c .record') ∙ now .rules;
-      posts = omega (arith, ap (λ r. r .posts) (c .record'), now .posts);
-      frames = ap (λ r. r .frames) (c .record') ∙ now .frames;
-      posted = λ i j hi hj. omega (arith, more-posted i j hi hj, now .posted i j hi hj);
-      sent = λ i j hi hj. ap (λ t. cell n t i j) (c .same-sent) ∙ now .sent i j hi hj;
-      dropped = λ i j hi hj. omega (arith, more-dropped i j hi hj, now .dropped i j hi hj, now .waiting i j hi hj);
-      waiting = λ i j hi hj. omega (arith, more-waiting i j hi hj, now .waiting i j hi hj);
-      short-enough = λ i j hi hj. omega arith;
-      balance = λ i j hi hj. omega (arith, now .balance i j hi hj);
-      possible = λ i j hi hj. omega (arith, now .possible i j hi hj, arrival-most i j hi hj);
-    }
+  arrival-most : cell n arrivals i j ≤ 65535
+  unfolding cell
+  arrival-most = (rw (now .nodes) at (post-accepted arrivals h (sym (c .answer)) .within)) .most (i * n + j) (cell-lt n i j hi hj)
+
+now-posted : {n l limit rule : ℕ} {es : List Event} {arrivals : List ℕ} {h h' : Held} → Now n l limit rule es h → Posted arrivals h h' Accepted → Now n l limit rule (posting arrivals Accepted ∷ es) h'
+unfolding arrived carried queue exceeded postsOf framesOf
+now-posted now c = let done = c .accepted refl in record {
+  ranges = now .ranges;
+  long-enough = still-long (now .long-enough) (post-lengths Accepted c);
+  nodes = ap (λ x. x .run .nodes) done ∙ now .nodes;
+  slots = ap (λ x. x .run .slots) done ∙ now .slots;
+  limits = ap (λ x. x .run .limit) done ∙ now .limits;
+  rules = ap (λ x. x .run .rule) done ∙ now .rules;
+  posts = omega (arith, ap (λ x. x .run .posts) done, now .posts);
+  frames = ap (λ x. x .run .frames) done ∙ now .frames;
+  posted = λ i j hi hj. omega (arith, more-posted now c i j hi hj, now .posted i j hi hj);
+  sent = λ i j hi hj. same-sent now c i j hi hj ∙ now .sent i j hi hj;
+  dropped = λ i j hi hj. omega (arith, more-dropped now c i j hi hj, now .dropped i j hi hj, now .waiting i j hi hj);
+  waiting = λ i j hi hj. omega (arith, more-waiting now c i j hi hj, now .waiting i j hi hj);
+  short-enough = λ i j hi hj. omega arith;
+  balance = λ i j hi hj. omega (arith, now .balance i j hi hj);
+  possible = λ i j hi hj. omega (arith, now .possible i j hi hj, arrival-most now c i j hi hj);
+}
 
 -- ---- a frame
-module _ {n l limit rule : ℕ} {es : List Event} (lent plan : Lent) {h h' : Held} (now : Now n l limit rule es h) where
-  module _ {k f d : ℕ} (c : FrameCall (lent .kept) (lent .withdrawn) (lent .schedule) (plan .kept) (plan .withdrawn) (plan .schedule) h h' (answer.Planned k f d)) where
-    pub planned : Wrote n l rule (wholeFrame n l) (h .waiting) (lent .kept) (lent .withdrawn) (lent .schedule) (plan .kept) (plan .withdrawn) (plan .schedule) (answer.Planned k f d)
-    planned = rw (now .nodes, now .slots, now .rules) at (c .tables .accepted refl)
+module _ {n l limit rule : ℕ} {es : List Event} {lent plan : Lent} {f : Report} {h h' : Held} (now : Now n l limit rule es h) (c : Framed lent plan h h' (answer.Planned f)) where
+  pub planned : PlanDone n l rule (wholeFrame n l) (h .waiting) lent plan f
+  planned = rw (now .nodes, now .slots, now .rules) at (c .accepted refl .plan)
 
-    less-waiting : (i j : ℕ) → i < n → j < n → cell n (h' .waiting) i j ≡ cell n (h .waiting) i j - count n l (plan .schedule) i j
-    unfolding cell
-    less-waiting i j hi hj =
-        ap (λ t. cell n t i j) (rw (now .nodes) at (c .tables .now-waiting refl))
-        ∙ rule-cell n (λ p. getD (h .waiting) p 0 - getD (plan .kept) p 0) (h .waiting) i j hi hj
-        ∙ ap (λ x. cell n (h .waiting) i j - x) (sym (planned .plan .carried .exact i j hi hj))
+  module _ (i j : ℕ) (hi : i < n) (hj : j < n) where
+    less-waiting : cell n (h' .waiting) i j ≡ cell n (h .waiting) i j - count n l (plan .schedule) i j
+    less-waiting =
+        ap (λ x. cell n (x .waiting) i j) (c .accepted refl .after)
+        ∙ ap (λ m. cell n (served m (plan .kept) (h .waiting)) i j) (now .nodes)
+        ∙ served-cell n i j hi hj (plan .kept) (h .waiting)
+        ∙ ap (λ x. cell n (h .waiting) i j - x) (sym (planned .wrote .plan .carried .exact i j hi hj))
 
-    more-sent : (i j : ℕ) → i < n → j < n → cell n (h' .sent) i j ≡ cell n (h .sent) i j + count n l (plan .schedule) i j
-    unfolding cell
-    more-sent i j hi hj =
-        ap (λ t. cell n t i j) (rw (now .nodes) at (c .tables .now-sent refl))
-        ∙ rule-cell n (λ p. getD (h .sent) p 0 + getD (plan .kept) p 0) (h .sent) i j hi hj
-        ∙ ap (λ x. cell n (h .sent) i j + x) (sym (planned .plan .carried .exact i j hi hj))
+    more-sent : cell n (h' .sent) i j ≡ cell n (h .sent) i j + count n l (plan .schedule) i j
+    more-sent =
+        ap (λ x. cell n (x .sent) i j) (c .accepted refl .after)
+        ∙ ap (λ m. cell n (more m (plan .kept) (h .sent)) i j) (now .nodes)
+        ∙ more-cell n i j hi hj (plan .kept) (h .sent)
+        ∙ ap (λ x. cell n (h .sent) i j + x) (sym (planned .wrote .plan .carried .exact i j hi hj))
 
-    pub sent-waited : (i j : ℕ) → i < n → j < n → count n l (plan .schedule) i j ≤ cell n (h .waiting) i j
-    sent-waited i j hi hj =
-        omega (arith, planned .plan .carried .exact i j hi hj, plan-below (now .ranges .known-rule) (planned .plan) i j hi hj)
+    same-posted : cell n (h' .posted) i j ≡ cell n (h .posted) i j
+    same-posted = ap (λ x. cell n (x .posted) i j) (c .accepted refl .after)
 
-    now-framed : Now n l limit rule (framing lent plan (answer.Planned k f d) ∷ es) h'
-    unfolding frameRun arrived carried queue exceeded postsOf framesOf
-    now-framed = record {
-      ranges = now .ranges;
-      long-enough = record {
-        waiting = new-room _ _ _ (rw (now .nodes) at (c .tables .now-waiting refl));
-        posted = rw (c .same-posted) (now .long-enough .posted);
-        sent = new-room _ _ _ (rw (now .nodes) at (c .tables .now-sent refl));
-        dropped = rw (c .same-dropped) (now .long-enough .dropped);
-      };
-      nodes = ap (λ r. r .nodes) (c .record') ∙ now .nodes;
-      slots = ap (λ r. r .slots) (c .record') ∙ now .slots;
-      room = ap (λ r. r .limit) (c .record') ∙ now .room;
-      rules = ap (λ r. r .rule) (c .record') ∙ now .rules;
-      posts = ap (λ r. r .posts) (c .record') ∙ now .posts;
-      frames = omega (arith, ap (λ r. r .frames) (c .record'), now .frames);
-      posted = λ i j hi hj. ap (λ t. cell n t i j) (c .same-posted) ∙ now .posted i j hi hj;
-      sent = λ i j hi hj. omega (arith, more-sent i j hi hj, now .sent i j hi hj);
-      dropped = λ i j hi hj. ap (λ t. cell n t i j) (c .same-dropped) ∙ now .dropped i j hi hj;
-      waiting = λ i j hi hj. omega (arith, less-waiting i j hi hj, now .waiting i j hi hj);
-      short-enough = λ i j hi hj. omega (arith, now .short-enough i j hi hj);
-      balance = λ i j hi hj. omega (arith, now .balance i j hi hj, sent-waited i j hi hj, now .waiting i j hi hj);
-      possible = now .possible;
-    }
+    same-dropped : cell n (h' .dropped) i j ≡ cell n (h .dropped) i j
+    same-dropped = ap (λ x. cell n (x .dropped) i j) (c .accepted refl .after)
+
+    pub sent-waited : count n l (plan .schedule) i j ≤ cell n (h .waiting) i j
+    sent-waited = omega (arith, planned .wrote .plan .carried .exact i j hi hj, plan-below (now .ranges .known-rule) (planned .wrote .plan) i j hi hj)
+
+now-framed : {n l limit rule : ℕ} {es : List Event} {lent plan : Lent} {f : Report} {h h' : Held} → Now n l limit rule es h → Framed lent plan h h' (answer.Planned f) →
+    Now n l limit rule (framing lent plan (answer.Planned f) ∷ es) h'
+unfolding arrived carried queue exceeded postsOf framesOf
+now-framed {lent = lent} {plan = plan} {f = f} {h = h} {h' = h'} now c = let done = c .accepted refl .after in record {
+  ranges = now .ranges;
+  long-enough = still-long (now .long-enough) (frame-lengths lent plan h h' (answer.Planned f) c .0);
+  nodes = ap (λ x. x .run .nodes) done ∙ now .nodes;
+  slots = ap (λ x. x .run .slots) done ∙ now .slots;
+  limits = ap (λ x. x .run .limit) done ∙ now .limits;
+  rules = ap (λ x. x .run .rule) done ∙ now .rules;
+  posts = ap (λ x. x .run .posts) done ∙ now .posts;
+  frames = omega (arith, ap (λ x. x .run .frames) done, now .frames);
+  posted = λ i j hi hj. same-posted now c i j hi hj ∙ now .posted i j hi hj;
+  sent = λ i j hi hj. omega (arith, more-sent now c i j hi hj, now .sent i j hi hj);
+  dropped = λ i j hi hj. same-dropped now c i j hi hj ∙ now .dropped i j hi hj;
+  waiting = λ i j hi hj. omega (arith, less-waiting now c i j hi hj, now .waiting i j hi hj);
+  short-enough = λ i j hi hj. omega (arith, now .short-enough i j hi hj);
+  balance = λ i j hi hj. omega (arith, now .balance i j hi hj, sent-waited now c i j hi hj, now .waiting i j hi hj);
+  possible = now .possible;
+}
 
 -- ---- every moment
 module _ {n l limit rule : ℕ} where
   now-after : (e : Event) {es : List Event} {h h' : Held} → Now n l limit rule es h → Happens e h h' → Now n l limit rule (e ∷ es) h'
   now-after (posting arrivals Accepted) now c = now-posted now c
-  now-after (posting arrivals (Refused r)) {es} now c = now-unmoved (post-unmoved n l limit es arrivals r) (post-unchanged c) now
-  now-after (framing lent plan (answer.Planned k f d)) now c = now-framed lent plan now c
-  now-after (framing lent plan (answer.Refused r)) {es} now c = now-unmoved (frame-unmoved n l limit es lent plan r) (frame-unchanged c) now
-  now-after (restarting n' l' limit' rule' x) {es} now c = now-unmoved (start-unmoved n l limit es n' l' limit' rule' x) (fresh-unchanged c) now
+  now-after (posting arrivals (Refused r)) {es} now c = now-unmoved (post-unmoved n l limit es arrivals r) (c .refused r refl) now
+  now-after (framing lent plan (answer.Planned f)) now c = now-framed now c
+  now-after (framing lent plan (answer.Refused r)) {es} now c = now-unmoved (frame-unmoved n l limit es lent plan r) (ap (λ x. x .0) (c .refused r refl)) now
+  now-after (restarting n' l' limit' rule' x) {es} now c = now-unmoved (start-unmoved n l limit es n' l' limit' rule' x) (c .refused x refl) now
 
   pub always : {es : List Event} {h : Held} → History n l limit rule es h → Now n l limit rule es h
   always (started h h' c) = now-started c

@@ -12,11 +12,11 @@ use Rattle.star.specs.Schedules.{ConflictFree, count, refusedBy}
 use Rattle.star.proofs.LineLaws.{total-ext}
 use Rattle.least.specs.Least.{keptFrom}
 use Rattle.least.proofs.LeastIsLeast.{least-is-least-whole}
-use Rattle.planner.specs.Plans.{Plan}
+use Rattle.planner.specs.Plans.{Lent, Plan}
 use Rattle.run.specs.Histories.{met, given}
 
 -- the schedule gives what is kept
-pub given-kept : {n l rule : ℕ} {cap d kept withdrawn schedule : List ℕ} → Plan n l rule cap d kept withdrawn schedule → given n l schedule ≡ total n kept
+pub given-kept : {n l rule : ℕ} {cap d : List ℕ} {k : Lent} → Plan n l rule cap d k → given n l (k .schedule) ≡ total n (k .kept)
 unfolding given total
 given-kept {n} p = sum-ext n _ _ (λ i hi. sum-ext n _ _ (λ j hj. p .carried .exact i j hi hj))
 
@@ -32,13 +32,13 @@ unfolding met
 met-ext n l f g s same = sum-ext n _ _ (λ i hi. sum-ext n _ _ (λ j hj. ap (λ x. min x (count n l s i j)) (same i j hi hj)))
 
 -- under the least rule no conflict-free schedule of L slots meets more of the demand than the plan's gives
-pub plan-most : {n l : ℕ} {d kept withdrawn schedule : List ℕ} → Plan n l 1 (wholeFrame n l) d kept withdrawn schedule →
-    (other : List ℕ) → ConflictFree n l other → met n l (cell n d) other ≤ given n l schedule
-plan-most {n} {l} {d} {kept} {withdrawn} {schedule} p other free = let g = p .least refl in
+pub plan-most : {n l : ℕ} {d : List ℕ} {k : Lent} → Plan n l 1 (wholeFrame n l) d k →
+    (other : List ℕ) → ConflictFree n l other → met n l (cell n d) other ≤ given n l (k .schedule)
+plan-most {n} {l} {d} {k} p other free = let g = p .least refl in
     omega (
       arith,
       least-is-least-whole (g .0) other free,
       met-and-refused n l d other,
       given-kept p,
-      total-ext n kept (keptFrom n (wholeFrame n l) d withdrawn) (take-cell n kept _ (g .1)),
+      total-ext n (k .kept) (keptFrom n (wholeFrame n l) d (k .withdrawn)) (take-cell n (k .kept) _ (g .1)),
     )
