@@ -4,10 +4,13 @@ use Prim.Native.Nat.{ℕ}
 use mathlib.Core.Path.{_≡_, refl}
 use mathlib.Core.List.{List, [], _∷_}
 use Rattle.sums.specs.Searches.{firstBelow, firstFrom}
-use Rattle.star.specs.declared.refusals.Refusal.the-variants.{DemandAbove}
-use Rattle.star.specs.Refusals.{Notice, notice, noticeOf, refuse, firstAbove}
+use Rattle.star.specs.declared.refusals.Refusal.the-variants.{TableShort, DemandAbove}
+use Rattle.star.specs.declared.refusals.Verdict.the-variants as verdict
+use Rattle.star.specs.Refusals.{Notice, notice, noticeOf, refuse, then, firstAbove}
+use Rattle.star.specs.Checks.{sizesVerdict, ruleVerdict, demandShortVerdict, demandAboveVerdict}
+use Rattle.planner.specs.declared.answers.Report.{Report}
 use Rattle.planner.specs.declared.answers.Answer.the-variants.{Planned, Refused}
-use Rattle.planner.specs.Plans.{verdictOf, keptTotal, refusedTotal, changes, planVerdict}
+use Rattle.planner.specs.Plans.{verdictOf, reportOf, lentShortVerdict, planVerdict}
 
 -- given how many cells kept, withdrawn and schedule have
 abbrev plan : (n l rule : ℕ) (d : List ℕ) (kept withdrawn schedule : ℕ) → Notice
@@ -30,7 +33,7 @@ pub record PlanGives : Type 0 where
   pub longer : plan 1 1024 1 (65535 ∷ 70000 ∷ []) 2 2 1025 ≡ notice 0 0
 
 plan-gives : PlanGives
-unfolding planVerdict refuse firstAbove firstBelow firstFrom
+unfolding planVerdict then sizesVerdict ruleVerdict demandShortVerdict lentShortVerdict demandAboveVerdict refuse firstAbove firstBelow firstFrom
 plan-gives = record {
   nodes = refl;
   many-nodes = refl;
@@ -45,16 +48,28 @@ plan-gives = record {
   longer = refl;
 }
 
+-- Three nodes and two slots: 9, 9 and 6 cells are enough, one less of any is not; so for 64 nodes and 1,024 slots.
+pub record LentGives : Type 0 where
+  pub enough : lentShortVerdict 3 2 9 9 6 ≡ verdict.Accepted
+  pub kept : lentShortVerdict 3 2 8 9 6 ≡ verdict.Refused TableShort
+  pub withdrawn : lentShortVerdict 3 2 9 8 6 ≡ verdict.Refused TableShort
+  pub schedule : lentShortVerdict 3 2 9 9 5 ≡ verdict.Refused TableShort
+  pub most : lentShortVerdict 64 1024 4096 4096 65536 ≡ verdict.Accepted
+  pub one-less : lentShortVerdict 64 1024 4096 4096 65535 ≡ verdict.Refused TableShort
+
+lent-gives : LentGives
+unfolding lentShortVerdict refuse
+lent-gives = record { enough = refl; kept = refl; withdrawn = refl; schedule = refl; most = refl; one-less = refl }
+
+abbrev figures : (kept refused reconfigurations : ℕ) → Report
+figures kept refused reconfigurations = record { kept = kept; refused = refused; reconfigurations = reconfigurations }
+
 -- A refusal's totals and reconfigurations are zero.
 pub record Reports : Type 0 where
-  pub kept : keptTotal (Planned 7 8 9) ≡ 7
-  pub refused : refusedTotal (Planned 7 8 9) ≡ 8
-  pub switched : changes (Planned 7 8 9) ≡ 9
-  pub accepted : noticeOf (verdictOf (Planned 7 8 9)) ≡ notice 0 0
-  pub none-kept : keptTotal (Refused (DemandAbove 3)) ≡ 0
-  pub none-refused : refusedTotal (Refused (DemandAbove 3)) ≡ 0
-  pub none-switched : changes (Refused (DemandAbove 3)) ≡ 0
+  pub planned : reportOf (Planned (figures 7 8 9)) ≡ figures 7 8 9
+  pub accepted : noticeOf (verdictOf (Planned (figures 7 8 9))) ≡ notice 0 0
+  pub nothing : reportOf (Refused (DemandAbove 3)) ≡ figures 0 0 0
   pub its-cell : noticeOf (verdictOf (Refused (DemandAbove 3))) ≡ notice 6 3
 
 reports : Reports
-reports = record { kept = refl; refused = refl; switched = refl; accepted = refl; none-kept = refl; none-refused = refl; none-switched = refl; its-cell = refl }
+reports = record { planned = refl; accepted = refl; nothing = refl; its-cell = refl }

@@ -12,7 +12,7 @@ use Rattle.star.proofs.AlikeLaws.{excess-ext, critical-ext}
 use Rattle.fair.specs.Fair.{fairKept, steps, uncut}
 use Rattle.least.specs.Least.{Withdrawn, Greatest, left, keptCell, keptFrom}
 use Rattle.least.proofs.Keeping.{refused-total}
-use Rattle.planner.specs.Plans.{Plan}
+use Rattle.planner.specs.Plans.{Lent, Plan}
 
 rule-ext : (n : ℕ) (f g : ℕ → ℕ → ℕ) → ((i j : ℕ) → i < n → j < n → f i j ≡ g i j) → square n f ≡ square n g
 unfolding square
@@ -41,18 +41,18 @@ greatest-ext n cap d e a same g = record {
 }
 
 -- under the least rule two plans keep one total: greatest matrices have one total, and kept and A together make up the excesses
-pub least-total : {n l : ℕ} {cap d e k₁ a₁ s₁ k₂ a₂ s₂ : List ℕ} → ((i j : ℕ) → i < n → j < n → cell n d i j ≡ cell n e i j) →
-    Plan n l 1 cap d k₁ a₁ s₁ → Plan n l 1 cap e k₂ a₂ s₂ → total n k₁ ≡ total n k₂
-least-total {n} {l} {cap} {d} {e} {k₁} {a₁} {s₁} {k₂} {a₂} same p q =
-    let g = greatest-ext n cap d e a₁ same (p .least refl .0) in
+pub least-total : {n l : ℕ} {cap d e : List ℕ} {k₁ k₂ : Lent} → ((i j : ℕ) → i < n → j < n → cell n d i j ≡ cell n e i j) → Plan n l 1 cap d k₁ → Plan n l 1 cap e k₂ →
+    total n (k₁ .kept) ≡ total n (k₂ .kept)
+least-total {n} {l} {cap} {d} {e} {k₁} {k₂} same p q =
+    let g = greatest-ext n cap d e (k₁ .withdrawn) same (p .least refl .0) in
     let h = q .least refl .0 in
-    let kept = p .least refl .1 ∙ kept-ext n cap d e same a₁ a₁ (λ i j hi hj. refl) in
+    let kept = p .least refl .1 ∙ kept-ext n cap d e same (k₁ .withdrawn) (k₁ .withdrawn) (λ i j hi hj. refl) in
     omega (
       arith,
-      total-ext n k₁ (keptFrom n cap e a₁) (take-cell n k₁ (keptFrom n cap e a₁) kept),
-      total-ext n k₂ (keptFrom n cap e a₂) (take-cell n k₂ (keptFrom n cap e a₂) (q .least refl .1)),
+      total-ext n (k₁ .kept) (keptFrom n cap e (k₁ .withdrawn)) (take-cell n (k₁ .kept) (keptFrom n cap e (k₁ .withdrawn)) kept),
+      total-ext n (k₂ .kept) (keptFrom n cap e (k₂ .withdrawn)) (take-cell n (k₂ .kept) (keptFrom n cap e (k₂ .withdrawn)) (q .least refl .1)),
       refused-total g,
       refused-total h,
-      g .most a₂ (h .withdrawn),
-      h .most a₁ (g .withdrawn),
+      g .most (k₂ .withdrawn) (h .withdrawn),
+      h .most (k₁ .withdrawn) (g .withdrawn),
     )

@@ -1,12 +1,12 @@
--- The theorems on plans. An accepted call has its rule, 0 or 1; each rule's laws give admissible and below; counts equal to kept turn the refused total into
--- source document 000's; greatest matrices have one total, so the totals agree. Assumes nothing.
+-- The theorems on plans. Each rule's laws give admissible and below; counts equal to kept turn the refused total into source document 000's; greatest
+-- matrices have one total, so the totals agree. An entry's theorems are those of plans with the whole frame: an accepted call has its rule, 0 or 1, and
+-- every conflict-free schedule respects the whole frame. Assumes nothing.
 use Prim.Native.Nat.{ℕ, _+_, _-_, _*_, _≤_, _<_}
 use native.Mathlib.Omega.{arith}
 use mathlib.Core.Path.{_≡_, refl, sym, _∙_, ap, ap₂}
 use mathlib.Core.Logic.{inl}
 use mathlib.Core.List.{List, [], _∷_, _++_}
-use lib.ListN.{length, getD, take, drop, take-append-drop, getD-replicate}
-use borrow.Author.Tests.{ltb-false, le-ltb}
+use lib.ListN.{length, take, drop, take-append-drop, getD-replicate}
 use Rattle.sums.specs.Sums.{sumTo, hit}
 use Rattle.sums.specs.Tables.{cell, tab, square}
 use Rattle.sums.proofs.Cases.{by-eq}
@@ -15,180 +15,162 @@ use Rattle.sums.proofs.Tables.{take-cell, first-cells}
 use Rattle.star.specs.declared.refusals.Verdict.the-variants as verdict
 use Rattle.star.specs.Tables.{Alike}
 use Rattle.star.specs.Lines.{total, wholeFrame, lineSum, onLine, sourceOn, destinationOn, Admissible}
+use Rattle.star.specs.Checks.{demandShortVerdict, demandAboveVerdict}
 use Rattle.star.specs.Schedules.{ConflictFree, count, refusedBy}
-use Rattle.star.proofs.RefusalLaws.{Sizes, passes, never, passed, neither, sizes-fit, none-above}
+use Rattle.star.proofs.RefusalLaws.{never}
 use Rattle.star.proofs.AlikeLaws.{alike-cell, alike-above, both-long}
-use Rattle.star.proofs.LineLaws.{line-ext, total-ext}
+use Rattle.star.proofs.LineLaws.{total-ext}
 use Rattle.fair.specs.Fair.{fairKept, steps, step, uncut, taken, smaller, exceeds, numerator, modifiedSum, unmodifiedSum, modified, cutLine, cutCell}
 use Rattle.fair.proofs.Steps.{fair-admissible}
 use Rattle.least.specs.Least.{keptFrom}
+use Rattle.least.proofs.Counts.{counts-admissible}
 use Rattle.least.proofs.Keeping.{kept-admissible, refused-total}
-use Rattle.least.proofs.LeastIsLeast.{least-is-least-whole}
+use Rattle.least.proofs.LeastIsLeast.{least-is-least}
+use Rattle.planner.specs.declared.answers.Report.{Report}
 use Rattle.planner.specs.declared.answers.Answer.{Answer}
 use Rattle.planner.specs.declared.answers.Answer.the-variants.{Planned, Refused}
-use Rattle.planner.specs.Plans.{verdictOf, keptTotal, refusedTotal, planVerdict, Plan, Wrote, PlanResult}
-use Rattle.planner.specs.Theorems.{AcceptedPlan, LeastPlan, Agree, AgreeAsNeeded, WrongPlanners, PlanTheorems}
-use Rattle.planner.proofs.PlanLaws.{total-below, plan-below}
+use Rattle.planner.specs.Plans.{verdictOf, reportOf, Lent, lent, planVerdict, lentShortVerdict, Plan, PlanDone, PlanResult, LentRoom}
+use Rattle.planner.specs.Theorems.{SoundPlan, LeastPlan, SamePlans, SameResults, SameAsNeeded, WrongPlanners, PlanTheorems}
+use Rattle.planner.proofs.KeptLaws.{as-admissible}
+use Rattle.planner.proofs.PlanLaws.{total-below, plan-below, whole-room, lent-fits, plan-accepts, plan-room}
 use Rattle.planner.proofs.NeededLaws.{fair-ext, kept-ext, least-total}
 
--- ---- an accepted call has passed the check of its rule
-known-rule : (n l rule : ℕ) (d : List ℕ) (k a s : ℕ) → planVerdict n l rule d k a s ≡ verdict.Accepted → rule ≤ 1
-unfolding planVerdict
-known-rule n l rule d k a s e = ltb-false 1 rule (passed _ _ _ (passed _ _ _ (passed _ _ _ e .1) .1) .0)
-
 -- ---- one plan
-module _ {n l rule : ℕ} {d k a s : List ℕ} (known : rule ≤ 1) (p : Plan n l rule (wholeFrame n l) d k a s) where
-  plan-admissible : Admissible n (wholeFrame n l) k
+module _ {n l rule : ℕ} {cap d : List ℕ} {k : Lent} (known : rule ≤ 1) (p : Plan n l rule cap d k) where
+  plan-admissible : Admissible n cap (k .kept)
   plan-admissible =
       by-eq rule 0
-      (λ e. moved (fairKept n (wholeFrame n l) d) (take-cell n k (fairKept n (wholeFrame n l) d) (p .fair e .0)) (fair-admissible n (wholeFrame n l) d))
-      (λ ne. moved (keptFrom n (wholeFrame n l) d a) (take-cell n k (keptFrom n (wholeFrame n l) d a) (p .least (omega arith) .1)) (kept-admissible (p .least (omega arith) .0)))
-    where
-      moved : (x : List ℕ) → ((i j : ℕ) → i < n → j < n → cell n k i j ≡ cell n x i j) → Admissible n (wholeFrame n l) x → Admissible n (wholeFrame n l) k
-      moved x same h = record { lines = λ ℓ q. omega (arith, line-ext n k x same ℓ q, h .lines ℓ q) }
+      (λ e. as-admissible n (k .kept) _ (p .fair e .0) (fair-admissible n cap d))
+      (λ ne. as-admissible n (k .kept) _ (p .least (omega arith) .1) (kept-admissible (p .least (omega arith) .0)))
 
   -- what the schedule refuses, and what it carries, make up the demand
-  plan-honest : refusedBy n l d s + total n k ≡ total n d
+  plan-honest : refusedBy n l d (k .schedule) + total n (k .kept) ≡ total n d
   unfolding refusedBy total
   plan-honest =
-      sym (sum-add n (λ i. sumTo n (λ j. cell n d i j - count n l s i j)) (λ i. sumTo n (λ j. cell n k i j)))
+      sym (sum-add n (λ i. sumTo n (λ j. cell n d i j - count n l (k .schedule) i j)) (λ i. sumTo n (λ j. cell n (k .kept) i j)))
       ∙ sum-ext n _ _ (λ i hi.
-      sym (sum-add n (λ j. cell n d i j - count n l s i j) (λ j. cell n k i j))
+      sym (sum-add n (λ j. cell n d i j - count n l (k .schedule) i j) (λ j. cell n (k .kept) i j))
       ∙ sum-ext n _ _ (λ j hj. omega (arith, p .carried .exact i j hi hj, plan-below known p i j hi hj)))
 
-pub plan-accepted : (n l rule : ℕ) (d k a s k' a' s' : List ℕ) (r : Answer) → PlanResult n l rule d k a s k' a' s' r → verdictOf r ≡ verdict.Accepted → AcceptedPlan n l d k' s' r
-plan-accepted n l rule d k a s k' a' s' r result ok =
-    let known = known-rule n l rule d (length k) (length a) (length s) (sym (result .answer) ∙ ok) in
-    let w = result .accepted ok in
+pub plan-sound : (n l rule : ℕ) (cap d : List ℕ) (k k' : Lent) (f : Report) → rule ≤ 1 → PlanDone n l rule cap d k k' f → SoundPlan n l cap d k' f
+plan-sound n l rule cap d k k' f known done =
+    let p = done .wrote .plan in
+    let g = done .figures in
     record {
-      admissible = plan-admissible known (w .plan);
-      below = plan-below known (w .plan);
-      honest = omega (arith, plan-honest known (w .plan), w .refused-total);
-      totals = omega (arith, w .kept-total, w .refused-total, total-below n d k' (plan-below known (w .plan)));
+      admissible = plan-admissible known p;
+      below = plan-below known p;
+      honest = omega (arith, plan-honest known p, g .refused-total);
+      totals = omega (arith, g .kept-total, g .refused-total, total-below n d (k' .kept) (plan-below known p));
     }
 
--- ---- the least rule
--- the total of kept is that of the matrix that follows from A
-kept-matrix : (n l : ℕ) (d k a s : List ℕ) → Plan n l 1 (wholeFrame n l) d k a s → total n k ≡ total n (keptFrom n (wholeFrame n l) d a)
-kept-matrix n l d k a s p = total-ext n k (keptFrom n (wholeFrame n l) d a) (take-cell n k (keptFrom n (wholeFrame n l) d a) (p .least refl .1))
-
-pub plan-least : (n l : ℕ) (d k a s k' a' s' : List ℕ) (r : Answer) → PlanResult n l 1 d k a s k' a' s' r → verdictOf r ≡ verdict.Accepted → LeastPlan n l d a' r
-plan-least n l d k a s k' a' s' r result ok =
-    let w = result .accepted ok in
-    let g = w .plan .least refl .0 in
+pub plan-least : (n l : ℕ) (cap d : List ℕ) (k k' : Lent) (f : Report) → PlanDone n l 1 cap d k k' f → LeastPlan n l cap d k' f
+plan-least n l cap d k k' f done =
+    let p = done .wrote .plan in
+    let g = p .least refl in
+    let refuses = done .figures .refused-total in
+    let follows = total-ext n (k' .kept) (keptFrom n cap d (k' .withdrawn)) (take-cell n (k' .kept) (keptFrom n cap d (k' .withdrawn)) (g .1)) in
     record {
-      smallest = λ t free. omega (arith, w .refused-total, kept-matrix n l d k' a' s' (w .plan), least-is-least-whole g t free);
-      by-excess = omega (arith, w .refused-total, kept-matrix n l d k' a' s' (w .plan), refused-total g, total-below n d k' (plan-below (omega arith) (w .plan)));
+      smallest = λ s free fits. omega (arith, refuses, follows, least-is-least (g .0) l s fits);
+      by-excess = omega (arith, refuses, follows, refused-total (g .0), total-below n d (k' .kept) (plan-below (omega arith) p));
     }
 
--- ---- two results
+-- ---- two plans of demands that agree at each pair
+module _ {n l rule : ℕ} {cap d e : List ℕ} {k₁ k₂ : Lent} (same : (i j : ℕ) → i < n → j < n → cell n d i j ≡ cell n e i j) (p : Plan n l rule cap d k₁) (q : Plan n l rule cap e k₂) where
+  fair-same : rule ≡ 0 → (take (n * n) (k₁ .kept) ≡ take (n * n) (k₂ .kept)) × (take (n * n) (k₁ .withdrawn) ≡ take (n * n) (k₂ .withdrawn))
+  fair-same z = (p .fair z .0 ∙ fair-ext n cap d e same ∙ sym (q .fair z .0), p .fair z .1 ∙ sym (q .fair z .1))
+
+  least-same : rule ≡ 1 → take (n * n) (k₁ .withdrawn) ≡ take (n * n) (k₂ .withdrawn) → take (n * n) (k₁ .kept) ≡ take (n * n) (k₂ .kept)
+  least-same u alike = p .least u .1 ∙ kept-ext n cap d e same (k₁ .withdrawn) (k₂ .withdrawn) (first-cells n (k₁ .withdrawn) (k₂ .withdrawn) alike) ∙ sym (q .least u .1)
+
+  kept-same : rule ≤ 1 → total n (k₁ .kept) ≡ total n (k₂ .kept)
+  kept-same known =
+      by-eq rule 0
+      (λ z. total-ext n (k₁ .kept) (k₂ .kept) (first-cells n (k₁ .kept) (k₂ .kept) (fair-same z .0)))
+      (λ ne. let u : rule ≡ 1 = omega arith in least-total same (rw u at p) (rw u at q))
+
+pub plan-same : (n l rule : ℕ) (cap d e : List ℕ) (k k₁ x k₂ : Lent) (f₁ f₂ : Report) → rule ≤ 1 → ((i j : ℕ) → i < n → j < n → cell n d i j ≡ cell n e i j) →
+    PlanDone n l rule cap d k k₁ f₁ → PlanDone n l rule cap e x k₂ f₂ → SamePlans n rule k₁ k₂ f₁ f₂
+plan-same n l rule cap d e k k₁ x k₂ f₁ f₂ known same one other =
+    let p = one .wrote .plan in
+    let q = other .wrote .plan in
+    let totals = kept-same same p q known in
+    record {
+      kept-totals = one .figures .kept-total ∙ totals ∙ sym (other .figures .kept-total);
+      refused-totals = one .figures .refused-total ∙ ap₂ _-_ (total-ext n d e same) totals ∙ sym (other .figures .refused-total);
+      fair-cells = fair-same same p q;
+      least-cells = least-same same p q;
+    }
+
+-- ---- one result
+pub plan-accepted : (n l rule : ℕ) (d : List ℕ) (k k' : Lent) (r : Answer) → PlanResult n l rule d k k' r → verdictOf r ≡ verdict.Accepted → SoundPlan n l (wholeFrame n l) d k' (reportOf r)
+plan-accepted n l rule d k k' r result ok = plan-sound n l rule (wholeFrame n l) d k k' (reportOf r) (plan-room n l rule d k (sym (result .answer) ∙ ok) .known-rule) (result .accepted ok)
+
+pub plan-smallest : (n l : ℕ) (d : List ℕ) (k k' : Lent) (r : Answer) → PlanResult n l 1 d k k' r → verdictOf r ≡ verdict.Accepted → (s : List ℕ) → ConflictFree n l s →
+    reportOf r .refused ≤ refusedBy n l d s
+plan-smallest n l d k k' r result ok s free = plan-least n l (wholeFrame n l) d k k' (reportOf r) (result .accepted ok) .smallest s free (counts-admissible free)
+
+pub plan-lengths : (n l rule : ℕ) (d : List ℕ) (k k' : Lent) (r : Answer) → PlanResult n l rule d k k' r →
+    (length (k' .kept) ≡ length (k .kept)) × (length (k' .withdrawn) ≡ length (k .withdrawn)) × (length (k' .schedule) ≡ length (k .schedule))
+plan-lengths n l rule d k k' (Planned f) result = let w = result .accepted refl .wrote in (w .kept-length, w .withdrawn-length, w .schedule-length)
+plan-lengths n l rule d k k' (Refused x) result = let same = result .refused x refl in (ap (λ t. length (t .kept)) same, ap (λ t. length (t .withdrawn)) same, ap (λ t. length (t .schedule)) same)
+
+-- ---- two results with the same verdict, on demands that agree at each pair
+module _ (n l rule : ℕ) (d e : List ℕ) (k k₁ x k₂ : Lent) (same : (i j : ℕ) → i < n → j < n → cell n d i j ≡ cell n e i j) where
+  same-plans : (r₁ r₂ : Answer) → PlanResult n l rule d k k₁ r₁ → PlanResult n l rule e x k₂ r₂ → verdictOf r₁ ≡ verdictOf r₂ → verdictOf r₁ ≡ verdict.Accepted → SamePlans n rule k₁ k₂ (reportOf r₁) (reportOf r₂)
+  same-plans r₁ r₂ x₁ x₂ verdicts ok =
+      plan-same n l rule (wholeFrame n l) d e k k₁ x k₂ (reportOf r₁) (reportOf r₂) (plan-room n l rule d k (sym (x₁ .answer) ∙ ok) .known-rule) same (x₁ .accepted ok) (x₂ .accepted (sym verdicts ∙ ok))
+
+  agreed : (r₁ r₂ : Answer) → PlanResult n l rule d k k₁ r₁ → PlanResult n l rule e x k₂ r₂ → verdictOf r₁ ≡ verdictOf r₂ → SameAsNeeded n rule k₁ k₂ r₁ r₂
+  agreed (Planned f) r₂ x₁ x₂ verdicts = let p = same-plans (Planned f) r₂ x₁ x₂ verdicts in
+      record { verdicts = verdicts; kept-totals = p refl .kept-totals; refused-totals = p refl .refused-totals; plans = p }
+  agreed (Refused y) (Planned f) x₁ x₂ verdicts = absurd (never verdicts)
+  agreed (Refused y) (Refused z) x₁ x₂ verdicts = record { verdicts = verdicts; kept-totals = refl; refused-totals = refl; plans = λ ok. absurd (never ok) }
+
 -- lists that agree in their first cells and in the further ones are one
 glue : (m : ℕ) (x y : List ℕ) → take m x ≡ take m y → drop m x ≡ drop m y → x ≡ y
 glue m x y e f = sym (take-append-drop m x) ∙ ap₂ _++_ e f ∙ take-append-drop m y
 
--- two results on demands that agree at each pair, with the same verdict
-module _ (n l rule : ℕ) (d e k a s k₁ a₁ s₁ x b t k₂ a₂ s₂ : List ℕ) (same : (i j : ℕ) → i < n → j < n → cell n d i j ≡ cell n e i j) where
-  module _ (r₁ r₂ : Answer) (x₁ : PlanResult n l rule d k a s k₁ a₁ s₁ r₁) (x₂ : PlanResult n l rule e x b t k₂ a₂ s₂ r₂) (verdicts : verdictOf r₁ ≡ verdictOf r₂)
-      (ok : verdictOf r₁ ≡ verdict.Accepted) where
-    w₁ : Wrote n l rule (wholeFrame n l) d k a s k₁ a₁ s₁ r₁
-    w₁ = x₁ .accepted ok
-
-    w₂ : Wrote n l rule (wholeFrame n l) e x b t k₂ a₂ s₂ r₂
-    w₂ = x₂ .accepted (sym verdicts ∙ ok)
-
-    fair-same : rule ≡ 0 → (take (n * n) k₁ ≡ take (n * n) k₂) × (take (n * n) a₁ ≡ take (n * n) a₂)
-    fair-same z = (w₁ .plan .fair z .0 ∙ fair-ext n (wholeFrame n l) d e same ∙ sym (w₂ .plan .fair z .0), w₁ .plan .fair z .1 ∙ sym (w₂ .plan .fair z .1))
-
-    least-same : rule ≡ 1 → take (n * n) a₁ ≡ take (n * n) a₂ → take (n * n) k₁ ≡ take (n * n) k₂
-    least-same u alike = w₁ .plan .least u .1 ∙ kept-ext n (wholeFrame n l) d e same a₁ a₂ (first-cells n a₁ a₂ alike) ∙ sym (w₂ .plan .least u .1)
-
-    kept-same : keptTotal r₁ ≡ keptTotal r₂
-    kept-same =
-        by-eq rule 0
-        (λ z. w₁ .kept-total ∙ total-ext n k₁ k₂ (first-cells n k₁ k₂ (fair-same z .0)) ∙ sym (w₂ .kept-total))
-        (λ ne.
-        let u : rule ≡ 1 = omega (arith, known-rule n l rule d (length k) (length a) (length s) (sym (x₁ .answer) ∙ ok)) in
-        w₁ .kept-total ∙ least-total same (rw u at (w₁ .plan)) (rw u at (w₂ .plan)) ∙ sym (w₂ .kept-total))
-
-    refused-same : refusedTotal r₁ ≡ refusedTotal r₂
-    refused-same = omega (arith, kept-same, w₁ .kept-total, w₂ .kept-total, w₁ .refused-total, w₂ .refused-total, total-ext n d e same)
-
-  agreed : (r₁ r₂ : Answer) → PlanResult n l rule d k a s k₁ a₁ s₁ r₁ → PlanResult n l rule e x b t k₂ a₂ s₂ r₂ → verdictOf r₁ ≡ verdictOf r₂ → AgreeAsNeeded n rule k₁ a₁ k₂ a₂ r₁ r₂
-  agreed (Planned y z w) r₂ x₁ x₂ verdicts = record {
-    verdicts = verdicts;
-    kept-totals = kept-same (Planned y z w) r₂ x₁ x₂ verdicts refl;
-    refused-totals = refused-same (Planned y z w) r₂ x₁ x₂ verdicts refl;
-    fair-cells = fair-same (Planned y z w) r₂ x₁ x₂ verdicts;
-    least-cells = least-same (Planned y z w) r₂ x₁ x₂ verdicts;
-  }
-  agreed (Refused y) (Planned z w u) x₁ x₂ verdicts = absurd (never verdicts)
-  agreed (Refused y) (Refused z) x₁ x₂ verdicts = record {
-    verdicts = verdicts;
-    kept-totals = refl;
-    refused-totals = refl;
-    fair-cells = λ ok. absurd (never ok);
-    least-cells = λ ok. absurd (never ok);
-  }
-
-pub plan-unique : (n l rule : ℕ) (d k a s k₁ a₁ s₁ k₂ a₂ s₂ : List ℕ) (r₁ r₂ : Answer) → PlanResult n l rule d k a s k₁ a₁ s₁ r₁ → PlanResult n l rule d k a s k₂ a₂ s₂ r₂ →
-    Agree n l rule d k a s k₁ a₁ s₁ k₂ a₂ s₂ r₁ r₂
-plan-unique n l rule d k a s k₁ a₁ s₁ k₂ a₂ s₂ r₁ r₂ x₁ x₂ =
+pub plan-unique : (n l rule : ℕ) (d : List ℕ) (k k₁ k₂ : Lent) (r₁ r₂ : Answer) → PlanResult n l rule d k k₁ r₁ → PlanResult n l rule d k k₂ r₂ → SameResults rule k₁ k₂ r₁ r₂
+plan-unique n l rule d k k₁ k₂ r₁ r₂ x₁ x₂ =
     let verdicts = x₁ .answer ∙ sym (x₂ .answer) in
-    let g = agreed n l rule d d k a s k₁ a₁ s₁ k a s k₂ a₂ s₂ (λ i j hi hj. refl) r₁ r₂ x₁ x₂ verdicts in
+    let g = agreed n l rule d d k k₁ k k₂ (λ i j hi hj. refl) r₁ r₂ x₁ x₂ verdicts in
+    let kept : verdictOf r₁ ≡ verdict.Accepted → drop (n * n) (k₁ .kept) ≡ drop (n * n) (k₂ .kept)
+    = λ ok. x₁ .accepted ok .wrote .kept-rest ∙ sym (x₂ .accepted (sym verdicts ∙ ok) .wrote .kept-rest) in
     record {
       verdicts = verdicts;
       kept-totals = g .kept-totals;
       refused-totals = g .refused-totals;
-      refused-cells = λ q e.
-          let u = x₁ .refused q e in
-          let v = x₂ .refused q (sym verdicts ∙ e) in
-          (u .0 ∙ sym (v .0), u .1 ∙ sym (v .1), u .2 ∙ sym (v .2));
+      refused-cells = λ q e. x₁ .refused q e ∙ sym (x₂ .refused q (sym verdicts ∙ e));
       fair-cells = λ ok z.
-          let w₁ = x₁ .accepted ok in
-          let w₂ = x₂ .accepted (sym verdicts ∙ ok) in
-          let first = g .fair-cells ok z in (
-            glue (n * n) k₁ k₂ (first .0) (w₁ .kept-rest ∙ sym (w₂ .kept-rest)),
-            glue (n * n) a₁ a₂ (first .1) (w₁ .withdrawn-rest ∙ sym (w₂ .withdrawn-rest)),
+          let first = g .plans ok .fair-cells z in (
+            glue (n * n) (k₁ .kept) (k₂ .kept) (first .0) (kept ok),
+            glue (n * n) (k₁ .withdrawn) (k₂ .withdrawn) (first .1) (x₁ .accepted ok .wrote .withdrawn-rest ∙ sym (x₂ .accepted (sym verdicts ∙ ok) .wrote .withdrawn-rest)),
           );
-      least-cells = λ ok u same.
-          glue (n * n) k₁ k₂ (g .least-cells ok u (ap (take (n * n)) same)) (x₁ .accepted ok .kept-rest ∙ sym (x₂ .accepted (sym verdicts ∙ ok) .kept-rest));
+      least-cells = λ ok u same. glue (n * n) (k₁ .kept) (k₂ .kept) (g .plans ok .least-cells u (ap (take (n * n)) same)) (kept ok);
     }
 
-alike-verdict : (n l rule : ℕ) (d e : List ℕ) (k a s x b t : ℕ) → Alike (n * n) d e → (n * n ≤ k) × (n * n ≤ a) × (l * n ≤ s) → (n * n ≤ x) × (n * n ≤ b) × (l * n ≤ t) →
-    planVerdict n l rule d k a s ≡ planVerdict n l rule e x b t
-unfolding planVerdict
-alike-verdict n l rule d e k a s x b t same one other =
-    rw (both-long (same .first-room) (same .second-room), both-long (one .0) (other .0), both-long (one .1) (other .1), both-long (one .2) (other .2), alike-above n same) refl
+alike-verdict : (n l rule : ℕ) (d e : List ℕ) (k x : Lent) → Alike (n * n) d e → LentRoom n l k → LentRoom n l x →
+    planVerdict n l rule d (length (k .kept)) (length (k .withdrawn)) (length (k .schedule)) ≡ planVerdict n l rule e (length (x .kept)) (length (x .withdrawn)) (length (x .schedule))
+unfolding planVerdict demandShortVerdict demandAboveVerdict
+alike-verdict n l rule d e k x same one other =
+    rw (both-long (same .first-room) (same .second-room), ← (lent-fits one), ← (lent-fits other), alike-above n same) refl
 
-pub plan-needed : (n l rule : ℕ) (d e k a s k₁ a₁ s₁ x b t k₂ a₂ s₂ : List ℕ) (r₁ r₂ : Answer) → PlanResult n l rule d k a s k₁ a₁ s₁ r₁ → PlanResult n l rule e x b t k₂ a₂ s₂ r₂ →
-    Alike (n * n) d e → (n * n ≤ length k) × (n * n ≤ length a) × (l * n ≤ length s) → (n * n ≤ length x) × (n * n ≤ length b) × (l * n ≤ length t) →
-    AgreeAsNeeded n rule k₁ a₁ k₂ a₂ r₁ r₂
-plan-needed n l rule d e k a s k₁ a₁ s₁ x b t k₂ a₂ s₂ r₁ r₂ x₁ x₂ same one other =
-    agreed n l rule d e k a s k₁ a₁ s₁ x b t k₂ a₂ s₂ (alike-cell n same) r₁ r₂ x₁ x₂
-    (x₁ .answer ∙ alike-verdict n l rule d e (length k) (length a) (length s) (length x) (length b) (length t) same one other ∙ sym (x₂ .answer))
-
--- ---- one result
-pub plan-lengths : (n l rule : ℕ) (d k a s k' a' s' : List ℕ) (r : Answer) → PlanResult n l rule d k a s k' a' s' r → (length k' ≡ length k) × (length a' ≡ length a) × (length s' ≡ length s)
-plan-lengths n l rule d k a s k' a' s' (Planned x y z) result = let w = result .accepted refl in (w .kept-length, w .withdrawn-length, w .schedule-length)
-plan-lengths n l rule d k a s k' a' s' (Refused x) result = let u = result .refused x refl in (ap length (u .0), ap length (u .1), ap length (u .2))
-
--- numbers in their ranges, tables that are long enough and no demand above the limit
-pub plan-accepts : (n l rule : ℕ) (d : List ℕ) (k a s : ℕ) → Sizes n l → rule ≤ 1 → n * n ≤ length d → (n * n ≤ k) × (n * n ≤ a) × (l * n ≤ s) →
-    ((p : ℕ) → p < n * n → getD d p 0 ≤ 65535) → verdict.Accepted ≡ planVerdict n l rule d k a s
-unfolding planVerdict
-plan-accepts n l rule d k a s sizes known cells tables most =
-    sizes-fit n l sizes
-    (passes _ (le-ltb 1 rule known)
-    (passes _ (le-ltb _ _ cells)
-    (passes _ (neither _ _ (neither _ _ (le-ltb _ _ (tables .0)) (le-ltb _ _ (tables .1))) (le-ltb _ _ (tables .2)))
-    (passes _ (none-above n d most) refl))))
+pub plan-needed : (n l rule : ℕ) (d e : List ℕ) (k k₁ x k₂ : Lent) (r₁ r₂ : Answer) → PlanResult n l rule d k k₁ r₁ → PlanResult n l rule e x k₂ r₂ →
+    Alike (n * n) d e → LentRoom n l k → LentRoom n l x → SameAsNeeded n rule k₁ k₂ r₁ r₂
+plan-needed n l rule d e k k₁ x k₂ r₁ r₂ x₁ x₂ same one other =
+    agreed n l rule d e k k₁ x k₂ (alike-cell n same) r₁ r₂ x₁ x₂ (x₁ .answer ∙ alike-verdict n l rule d e k x same one other ∙ sym (x₂ .answer))
 
 -- ---- the wrong planners
--- one slot for one node: the demand of 1 is accepted ..
-one-accepted : (rule x : ℕ) (k a s : List ℕ) → rule ≤ 1 → x ≤ 1 → 1 ≤ length k → 1 ≤ length a → 1 ≤ length s → planVerdict 1 1 rule (x ∷ []) (length k) (length a) (length s) ≡ verdict.Accepted
-one-accepted rule x k a s hr hx hk ha hs =
-    sym (plan-accepts 1 1 rule (x ∷ []) (length k) (length a) (length s) (record { some-nodes = omega arith; nodes = omega arith; some-slots = omega arith; slots = omega arith })
-    hr (omega arith) (hk, ha, hs) (λ p lt. let e : p ≡ 0 = omega arith in rw e (omega arith)))
+-- one slot for one node: a demand of at most 1 is accepted ..
+one-accepted : (rule y : ℕ) (k : Lent) → rule ≤ 1 → y ≤ 1 → LentRoom 1 1 k → verdict.Accepted ≡ planVerdict 1 1 rule (y ∷ []) (length (k .kept)) (length (k .withdrawn)) (length (k .schedule))
+one-accepted rule y k known small room =
+    plan-accepts
+    (whole-room
+    (record { some-nodes = omega arith; nodes = omega arith; some-slots = omega arith; slots = omega arith })
+    known
+    (omega arith)
+    (record { most = λ p lt. let e : p ≡ 0 = omega arith in rw e (omega arith) })
+    room)
 
 -- .. the schedule that names source 0 in its slot has no conflict and refuses nothing of it ..
 one-slot : ConflictFree 1 1 (0 ∷ [])
@@ -215,21 +197,20 @@ one-asked : cell 1 (1 ∷ []) 0 0 ≡ 1
 unfolding cell
 one-asked = refl
 
-one-kept : (rule : ℕ) (k a s k' a' s' : List ℕ) (r : Answer) → rule ≤ 1 → PlanResult 1 1 rule (1 ∷ []) k a s k' a' s' r → verdictOf r ≡ verdict.Accepted → cell 1 k' 0 0 ≡ 1
-one-kept rule k a s k' a' s' r known result ok =
+one-kept : (rule : ℕ) (k k' : Lent) (r : Answer) → rule ≤ 1 → PlanResult 1 1 rule (1 ∷ []) k k' r → verdictOf r ≡ verdict.Accepted → cell 1 (k' .kept) 0 0 ≡ 1
+one-kept rule k k' r known result ok =
     by-eq rule 0
-    (λ e. take-cell 1 k' (fairKept 1 (wholeFrame 1 1) (1 ∷ [])) (result .accepted ok .plan .fair e .0) 0 0 (omega arith) (omega arith) ∙ one-fair)
+    (λ e. take-cell 1 (k' .kept) (fairKept 1 (wholeFrame 1 1) (1 ∷ [])) (result .accepted ok .wrote .plan .fair e .0) 0 0 (omega arith) (omega arith) ∙ one-fair)
     (λ ne.
     let e : rule ≡ 1 = omega arith in
-    let least : PlanResult 1 1 1 (1 ∷ []) k a s k' a' s' r = rw e at result in
-    let p = plan-accepted 1 1 1 (1 ∷ []) k a s k' a' s' r least ok in
+    let least : PlanResult 1 1 1 (1 ∷ []) k k' r = rw e at result in
     omega (
       arith,
-      p .totals,
-      plan-least 1 1 (1 ∷ []) k a s k' a' s' r least ok .smallest (0 ∷ []) one-slot,
+      plan-accepted 1 1 1 (1 ∷ []) k k' r least ok .totals,
+      plan-smallest 1 1 (1 ∷ []) k k' r least ok (0 ∷ []) one-slot,
       one-served,
-      least .accepted ok .kept-total,
-      one-cell k',
+      least .accepted ok .figures .kept-total,
+      one-cell (k' .kept),
       one-cell (1 ∷ []),
       one-asked,
     ))
@@ -244,24 +225,22 @@ never-asked = refl
 
 pub wrong-planners : WrongPlanners
 wrong-planners = record {
-  refuses-everything = λ n l rule d k a s k' a' s' x e result.
-      let f = result .answer ∙ e in
-      let z : _≡_ {A = ℕ} 0 1 = cc in
-      omega arith;
+  refuses-everything = λ n l rule d k k' x e result. never (result .answer ∙ e);
   untouched-schedule = λ rule k a k' a' r known hk ha result.
-      let ok = result .answer ∙ one-accepted rule 1 k a (255 ∷ []) known (omega arith) hk ha (omega arith) in
+      let before = lent k a (255 ∷ []) in
+      let ok = result .answer ∙ sym (one-accepted rule 1 before known (omega arith) (record { kept = hk; withdrawn = ha; schedule = omega arith })) in
       omega (
         arith,
-        one-kept rule k a (255 ∷ []) k' a' (255 ∷ []) r known result ok,
-        result .accepted ok .plan .carried .exact 0 0 (omega arith) (omega arith),
+        one-kept rule before (lent k' a' (255 ∷ [])) r known result ok,
+        result .accepted ok .wrote .plan .carried .exact 0 0 (omega arith) (omega arith),
         never-heard,
       );
-  fixed-plan = λ rule k a s k' a' s' r known hk ha hs one none.
-      let ok = one .answer ∙ one-accepted rule 1 k a s known (omega arith) hk ha hs in
+  fixed-plan = λ rule k k' r known room one none.
+      let ok = one .answer ∙ sym (one-accepted rule 1 k known (omega arith) room) in
       omega (
         arith,
-        one-kept rule k a s k' a' s' r known one ok,
-        plan-accepted 1 1 rule (0 ∷ []) k a s k' a' s' r none ok .below 0 0 (omega arith) (omega arith),
+        one-kept rule k k' r known one ok,
+        plan-accepted 1 1 rule (0 ∷ []) k k' r none ok .below 0 0 (omega arith) (omega arith),
         never-asked,
       );
 }
@@ -269,11 +248,12 @@ wrong-planners = record {
 -- all of it
 pub plan-theorems : PlanTheorems
 plan-theorems = record {
-  accepts = λ n l rule d k a s k' a' s' r result p q t u known cells kept withdrawn schedule most.
-      result .answer
-      ∙ sym (plan-accepts n l rule d (length k) (length a) (length s) (record { some-nodes = p; nodes = q; some-slots = t; slots = u }) known cells (kept, withdrawn, schedule) most);
-  accepted = plan-accepted;
+  sound = plan-sound;
   least = plan-least;
+  same = plan-same;
+  accepts = λ n l rule d k k' r result sizes known demand tables most. result .answer ∙ sym (plan-accepts (whole-room sizes known demand (record { most = most }) tables));
+  accepted = plan-accepted;
+  smallest = plan-smallest;
   unique = plan-unique;
   needed = plan-needed;
   lengths = plan-lengths;

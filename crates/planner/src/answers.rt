@@ -28,7 +28,7 @@ pub fn verdict(a: Answer) -> Verdict
 }
 
 // The report of an answer; a refusal's figures are 0.
-pub fn report(a: Answer) -> Report
+pub fn report_of(a: Answer) -> Report
     ensures { λ r. ⌜ r ≡ reportOf a ⌝ }
 {
     match a {

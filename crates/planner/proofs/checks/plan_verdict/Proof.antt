@@ -1,61 +1,68 @@
--- `plan_verdict` meets its contract: the shared checks, then its own, in their order. Assumes nothing.
-use native.Mathlib.Omega.{arith}
+-- `plan_verdict` meets its contract: the five groups in their order. Assumes nothing.
 use mathlib.Core.Path.{sym, _∙_}
-use borrow.Author.Needs.{needs}
-use borrow.Author.Tests.{lt-ltb, le-ltb}
-use Rattle.sums.proofs.Tables.{mul-small}
-use Rattle.star.proofs.RefusalLaws.{fires, passes, sizes-fire, sizes-pass, sized}
+use Rattle.star.proofs.RefusalLaws.{then-stops, then-goes, sized, long-demand}
 use Rattle.planner.specs.Plans.{planVerdict}
 use Rattle.planner.proofs.checks.plan_verdict.Statement.{statement}
 use Rattle.planner.proofs.checks.plan_verdict.Tie as tie
 
 sizes-requires : tie.Need-sizes-requires
-sizes-requires c κs = search needs
+sizes-requires c κs = tt
 
 enum-told : tie.Need-enum-told
-enum-told c = search needs
+enum-told c = c .match .keys1
 
 enum-told-2 : tie.Need-enum-told-2
-enum-told-2 c = search needs
+enum-told-2 c = c .match .keys2
 
 returns : tie.Need-returns
 unfolding planVerdict
-returns c = let a = c .before .before .before .before .args in sizes-fire (a .nodes) (a .slots) _ (c .before .before .sizes .ensures) (c .enum-told2 .given .1)
+returns c = then-stops _ (c .before .before .sizes .ensures) (c .enum-told2 .given .1)
+
+known-rule-requires : tie.Need-known-rule-requires
+known-rule-requires c κs = tt
+
+enum-told-3 : tie.Need-enum-told-3
+enum-told-3 c = c .match2 .keys1
+
+enum-told-4 : tie.Need-enum-told-4
+enum-told-4 c = c .match2 .keys2
 
 returns-2 : tie.Need-returns-2
 unfolding planVerdict
-returns-2 c = let a = c .before .before .before .before .before .args in sizes-pass (a .nodes) (a .slots) (c .before .before .before .sizes .ensures) (c .before .enum-told .given .1) (fires _ (lt-ltb _ _ (c .if1 .taken)))
+returns-2 c = then-goes (c .before .before .before .before .before .sizes .ensures) (c .before .before .before .enum-told .given .1) (then-stops _ (c .before .before .known-rule .ensures) (c .enum-told4 .given .1))
 
-mul-if2 : tie.Need-mul-if2
-mul-if2 c = let a = c .before .before .before .before .before .args in let g = sized (a .nodes) (a .slots) (c .before .before .before .sizes .ensures) (c .before .enum-told .given .1) in omega (arith, mul-small (a .nodes) (a .nodes) (g .nodes) (g .nodes))
+demand-short-requires : tie.Need-demand-short-requires
+demand-short-requires c κs = sized (c .before .before .before .before .before .before .before .args .nodes) (c .before .before .before .before .before .before .before .args .slots) (sym (c .before .before .before .before .before .sizes .ensures) ∙ c .before .before .before .enum-told .given .1) .nodes
+
+enum-told-5 : tie.Need-enum-told-5
+enum-told-5 c = c .match3 .keys1
+
+enum-told-6 : tie.Need-enum-told-6
+enum-told-6 c = c .match3 .keys2
 
 returns-3 : tie.Need-returns-3
 unfolding planVerdict
-returns-3 c = let a = c .before .before .before .before .before .before .args in sizes-pass (a .nodes) (a .slots) (c .before .before .before .before .sizes .ensures) (c .before .before .enum-told .given .1) (passes _ (le-ltb _ _ (c .before .if1 .left)) (fires _ (lt-ltb _ _ (c .if2 .taken))))
+returns-3 c = then-goes (c .before .before .before .before .before .before .before .before .sizes .ensures) (c .before .before .before .before .before .before .enum-told .given .1) (then-goes (c .before .before .before .before .before .known-rule .ensures) (c .before .before .before .enum-told3 .given .1) (then-stops _ (c .before .before .demand-short .ensures) (c .enum-told6 .given .1)))
 
-plan-short-requires : tie.Need-plan-short-requires
-plan-short-requires c κs = let a = c .before .before .before .before .before .before .args in let g = sized (a .nodes) (a .slots) (c .before .before .before .before .sizes .ensures) (c .before .before .enum-told .given .1) in (g .nodes, g .slots)
+lent-short-requires : tie.Need-lent-short-requires
+lent-short-requires c κs = sized (c .before .before .before .before .before .before .before .before .before .before .args .nodes) (c .before .before .before .before .before .before .before .before .before .before .args .slots) (sym (c .before .before .before .before .before .before .before .before .sizes .ensures) ∙ c .before .before .before .before .before .before .enum-told .given .1)
+
+enum-told-7 : tie.Need-enum-told-7
+enum-told-7 c = c .match4 .keys1
+
+enum-told-8 : tie.Need-enum-told-8
+enum-told-8 c = c .match4 .keys2
 
 returns-4 : tie.Need-returns-4
 unfolding planVerdict
-returns-4 c = let a = c .before .before .before .before .before .before .before .before .args in sizes-pass (a .nodes) (a .slots) (c .before .before .before .before .before .before .sizes .ensures) (c .before .before .before .before .enum-told .given .1) (passes _ (le-ltb _ _ (c .before .before .before .if1 .left)) (passes _ (le-ltb _ _ (c .before .before .if2 .left)) (fires _ (sym (c .before .plan-short .ensures) ∙ c .if3 .taken))))
+returns-4 c = then-goes (c .before .before .before .before .before .before .before .before .before .before .before .sizes .ensures) (c .before .before .before .before .before .before .before .before .before .enum-told .given .1) (then-goes (c .before .before .before .before .before .before .before .before .known-rule .ensures) (c .before .before .before .before .before .before .enum-told3 .given .1) (then-goes (c .before .before .before .before .before .demand-short .ensures) (c .before .before .before .enum-told5 .given .1) (then-stops _ (c .before .before .lent-short .ensures) (c .enum-told8 .given .1))))
 
-first-above-requires : tie.Need-first-above-requires
-first-above-requires c κs = record { nodes = sized (c .before .before .before .before .before .before .before .before .args .nodes) (c .before .before .before .before .before .before .before .before .args .slots) (c .before .before .before .before .before .before .sizes .ensures) (c .before .before .before .before .enum-told .given .1) .nodes; cells = c .before .before .if2 .left }
-
-mul-if4 : tie.Need-mul-if4
-mul-if4 c = search needs
-
-cast-t18 : tie.Need-cast-t18
-cast-t18 c = let a = c .before .before .before .before .before .before .before .before .before .before .args in let g = sized (a .nodes) (a .slots) (c .before .before .before .before .before .before .before .before .sizes .ensures) (c .before .before .before .before .before .before .enum-told .given .1) in omega (arith, c .if4 .taken, mul-small (a .nodes) (a .nodes) (g .nodes) (g .nodes))
+demand-above-requires : tie.Need-demand-above-requires
+demand-above-requires c κs = record { nodes = sized (c .before .before .before .before .before .before .before .before .before .before .before .before .before .args .nodes) (c .before .before .before .before .before .before .before .before .before .before .before .before .before .args .slots) (sym (c .before .before .before .before .before .before .before .before .before .before .before .sizes .ensures) ∙ c .before .before .before .before .before .before .before .before .before .enum-told .given .1) .nodes; cells = long-demand _ _ (sym (c .before .before .before .before .before .demand-short .ensures) ∙ c .before .before .before .enum-told5 .given .1) }
 
 returns-5 : tie.Need-returns-5
 unfolding planVerdict
-returns-5 c = let a = c .before .before .before .before .before .before .before .before .before .before .args in sizes-pass (a .nodes) (a .slots) (c .before .before .before .before .before .before .before .before .sizes .ensures) (c .before .before .before .before .before .before .enum-told .given .1) (passes _ (le-ltb _ _ (c .before .before .before .before .before .if1 .left)) (passes _ (le-ltb _ _ (c .before .before .before .before .if2 .left)) (passes _ (sym (c .before .before .before .plan-short .ensures) ∙ c .before .before .if3 .left) (rw (← (c .before .first-above .ensures)) (fires _ (lt-ltb _ _ (c .if4 .taken)))))))
-
-returns-6 : tie.Need-returns-6
-unfolding planVerdict
-returns-6 c = let a = c .before .before .before .before .before .before .before .before .before .before .args in sizes-pass (a .nodes) (a .slots) (c .before .before .before .before .before .before .before .before .sizes .ensures) (c .before .before .before .before .before .before .enum-told .given .1) (passes _ (le-ltb _ _ (c .before .before .before .before .before .if1 .left)) (passes _ (le-ltb _ _ (c .before .before .before .before .if2 .left)) (passes _ (sym (c .before .before .before .plan-short .ensures) ∙ c .before .before .if3 .left) (rw (← (c .before .first-above .ensures)) (passes _ (le-ltb _ _ (c .if4 .left)) (c .before .before .before .before .before .before .enum-told .given .1))))))
+returns-5 c = then-goes (c .before .before .before .before .before .before .before .before .before .before .before .before .sizes .ensures) (c .before .before .before .before .before .before .before .before .before .before .enum-told .given .1) (then-goes (c .before .before .before .before .before .before .before .before .before .known-rule .ensures) (c .before .before .before .before .before .before .before .enum-told3 .given .1) (then-goes (c .before .before .before .before .before .before .demand-short .ensures) (c .before .before .before .before .enum-told5 .given .1) (then-goes (c .before .before .before .lent-short .ensures) (c .before .enum-told7 .given .1) (c .demand-above .ensures))))
 
 pub plan-verdict-spec : {M : Type 1} → statement M
 plan-verdict-spec =
@@ -65,13 +72,17 @@ plan-verdict-spec =
     enum-told
     enum-told-2
     returns
+    known-rule-requires
+    enum-told-3
+    enum-told-4
     returns-2
-    mul-if2
+    demand-short-requires
+    enum-told-5
+    enum-told-6
     returns-3
-    plan-short-requires
+    lent-short-requires
+    enum-told-7
+    enum-told-8
     returns-4
-    first-above-requires
-    mul-if4
-    cast-t18
-    returns-5
-    returns-6)
+    demand-above-requires
+    returns-5)

@@ -14,23 +14,23 @@ mul-lines c = search needs
 array-share-prefix-cap : tie.Need-array-share-prefix-cap
 array-share-prefix-cap c = search needs
 
-slice-aggregate-write : tie.Need-slice-aggregate-write
-slice-aggregate-write c = sym (length-take-le _ _ (omega (arith, length-replicate 128 (c .before .before .before .before .before .args .slots), c .before .before .before .before .before .pre .nodes)))
+slice-aggregate-write-plan : tie.Need-slice-aggregate-write-plan
+slice-aggregate-write-plan c = sym (length-take-le _ _ (omega (arith, length-replicate 128 (c .before .before .before .before .before .args .slots), c .before .before .before .before .before .pre .sizes .nodes)))
 
-write-requires : tie.Need-write-requires
-write-requires c κs = rw (whole-frame (c .before .before .before .before .before .before .before .before .args .nodes) (c .before .before .before .before .before .before .before .before .args .slots) (c .before .before .before .before .before .before .before .before .pre .nodes)) (c .before .before .before .before .before .before .before .before .pre)
+write-plan-requires : tie.Need-write-plan-requires
+write-plan-requires c κs = rw (whole-frame (c .before .before .before .before .before .before .before .before .args .nodes) (c .before .before .before .before .before .before .before .before .args .slots) (c .before .before .before .before .before .before .before .before .pre .sizes .nodes)) (c .before .before .before .before .before .before .before .before .pre)
 
 same-length : tie.Need-same-length
-same-length c = search needs
+same-length c = c .before .before .before .before .before .before .write-plan .kept .1 .1 .1 .1 .1 .0
 
 same-length-2 : tie.Need-same-length-2
-same-length-2 c = search needs
+same-length-2 c = c .before .before .before .before .before .before .write-plan .kept .1 .1 .1 .1 .1 .1 .0
 
 same-length-3 : tie.Need-same-length-3
-same-length-3 c = search needs
+same-length-3 c = c .before .before .before .before .before .before .write-plan .kept .1 .1 .1 .1 .1 .1 .1 .0
 
 returns : tie.Need-returns
-returns c = rw (← (whole-frame (c .before .before .before .before .before .before .before .before .before .before .before .before .before .before .before .args .nodes) (c .before .before .before .before .before .before .before .before .before .before .before .before .before .before .before .args .slots) (c .before .before .before .before .before .before .before .before .before .before .before .before .before .before .before .pre .nodes))) (c .before .before .before .before .before .before .write .ensures)
+returns c = rw (← (whole-frame (c .before .before .before .before .before .before .before .before .before .before .before .before .before .before .before .args .nodes) (c .before .before .before .before .before .before .before .before .before .before .before .before .before .before .before .args .slots) (c .before .before .before .before .before .before .before .before .before .before .before .before .before .before .before .pre .sizes .nodes))) (c .before .before .before .before .before .before .write-plan .ensures)
 
 pub write-whole-spec : {M : Type 1} → statement M
 write-whole-spec =
@@ -38,8 +38,8 @@ write-whole-spec =
     (tie.spec
     mul-lines
     array-share-prefix-cap
-    slice-aggregate-write
-    write-requires
+    slice-aggregate-write-plan
+    write-plan-requires
     same-length
     same-length-2
     same-length-3
