@@ -138,148 +138,89 @@ impl Tables {
 
 fn slacks(tables: &mut Tables) -> u32 {
     let mut place = 0;
-    unsafe {
-        raw::gyodaebeun_slacks(
-            NODES,
-            SLOTS,
-            tables.demand.as_ptr(),
-            tables.demand.len(),
-            tables.slacks.as_mut_ptr(),
-            tables.slacks.len(),
-            &mut place,
-        )
-    }
+    raw::slacks(NODES, SLOTS, &tables.demand, &mut tables.slacks, &mut place)
 }
 
 fn plan(tables: &mut Tables) -> u32 {
     let mut report = [0; 4];
-    unsafe {
-        raw::gyodaebeun_plan(
-            NODES,
-            SLOTS,
-            tables.rule,
-            tables.demand.as_ptr(),
-            tables.demand.len(),
-            tables.kept.as_mut_ptr(),
-            tables.kept.len(),
-            tables.withdrawn.as_mut_ptr(),
-            tables.withdrawn.len(),
-            tables.schedule.as_mut_ptr(),
-            tables.schedule.len(),
-            &mut report,
-        )
-    }
+    raw::plan(
+        NODES,
+        SLOTS,
+        tables.rule,
+        &tables.demand,
+        &mut tables.kept,
+        &mut tables.withdrawn,
+        &mut tables.schedule,
+        &mut report,
+    )
 }
 
 fn fresh(tables: &mut Tables) -> u32 {
     let mut place = 0;
-    unsafe {
-        raw::gyodaebeun_fresh(
-            &mut tables.run,
-            NODES,
-            SLOTS,
-            QUEUE_LIMIT,
-            tables.rule,
-            tables.waiting.as_mut_ptr(),
-            tables.waiting.len(),
-            tables.posted.as_mut_ptr(),
-            tables.posted.len(),
-            tables.sent.as_mut_ptr(),
-            tables.sent.len(),
-            tables.dropped.as_mut_ptr(),
-            tables.dropped.len(),
-            &mut place,
-        )
-    }
+    raw::fresh(
+        &mut tables.run,
+        NODES,
+        SLOTS,
+        QUEUE_LIMIT,
+        tables.rule,
+        &mut tables.waiting,
+        &mut tables.posted,
+        &mut tables.sent,
+        &mut tables.dropped,
+        &mut place,
+    )
 }
 
 fn post(tables: &mut Tables) -> u32 {
     let mut place = 0;
-    unsafe {
-        raw::gyodaebeun_post(
-            &mut tables.run,
-            tables.demand.as_ptr(),
-            tables.demand.len(),
-            tables.waiting.as_mut_ptr(),
-            tables.waiting.len(),
-            tables.posted.as_mut_ptr(),
-            tables.posted.len(),
-            tables.sent.as_ptr(),
-            tables.sent.len(),
-            tables.dropped.as_mut_ptr(),
-            tables.dropped.len(),
-            &mut place,
-        )
-    }
+    raw::post(
+        &mut tables.run,
+        &tables.demand,
+        &mut tables.waiting,
+        &mut tables.posted,
+        &tables.sent,
+        &mut tables.dropped,
+        &mut place,
+    )
 }
 
 fn frame(tables: &mut Tables) -> u32 {
     let mut report = [0; 4];
-    unsafe {
-        raw::gyodaebeun_frame(
-            &mut tables.run,
-            tables.waiting.as_mut_ptr(),
-            tables.waiting.len(),
-            tables.posted.as_ptr(),
-            tables.posted.len(),
-            tables.sent.as_mut_ptr(),
-            tables.sent.len(),
-            tables.dropped.as_ptr(),
-            tables.dropped.len(),
-            tables.kept.as_mut_ptr(),
-            tables.kept.len(),
-            tables.withdrawn.as_mut_ptr(),
-            tables.withdrawn.len(),
-            tables.schedule.as_mut_ptr(),
-            tables.schedule.len(),
-            &mut report,
-        )
-    }
+    raw::frame(
+        &mut tables.run,
+        &mut tables.waiting,
+        &tables.posted,
+        &mut tables.sent,
+        &tables.dropped,
+        &mut tables.kept,
+        &mut tables.withdrawn,
+        &mut tables.schedule,
+        &mut report,
+    )
 }
 
 fn write_scenario(tables: &mut Tables) -> u32 {
     let mut report = [0; 2];
-    unsafe {
-        raw::gyodaebeun_write_scenario(
-            NODES,
-            SLOTS,
-            QUEUE_LIMIT,
-            tables.rule,
-            KINDS.as_ptr(),
-            KINDS.len(),
-            tables.demand.as_ptr(),
-            tables.demand.len(),
-            tables.file.as_mut_ptr(),
-            tables.file.len(),
-            &mut report,
-        )
-    }
+    raw::write_scenario(
+        NODES,
+        SLOTS,
+        QUEUE_LIMIT,
+        tables.rule,
+        &KINDS,
+        &tables.demand,
+        &mut tables.file,
+        &mut report,
+    )
 }
 
 fn play_scenario(tables: &mut Tables) -> u32 {
     let mut report = [0; 2];
-    unsafe {
-        raw::gyodaebeun_play_scenario(
-            tables.file.as_ptr(),
-            tables.file.len(),
-            tables.text.as_mut_ptr(),
-            tables.text.len(),
-            &mut report,
-        )
-    }
+    raw::play_scenario(&tables.file, &mut tables.text, &mut report)
 }
 
 /// Of what the plan keeps; this call cannot be refused.
 fn place(tables: &mut Tables) -> u32 {
-    unsafe {
-        lab::raw::lab_place(
-            NODES as usize,
-            SLOTS as usize,
-            tables.kept.as_mut_ptr(),
-            tables.kept.len(),
-            tables.schedule.as_mut_ptr(),
-            tables.schedule.len(),
-        );
-    }
+    let (n, slots) = (NODES as usize, SLOTS as usize);
+    unsafe { lab::place_untested(n, slots, &mut tables.kept, &mut tables.schedule) };
     0
 }

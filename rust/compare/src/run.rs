@@ -171,24 +171,18 @@ impl Loan {
 
     fn fresh_in_c(&mut self, nodes: u32, slots: u32, limit: u32, rule: u32) -> Answer {
         let mut place = u32::MAX;
-        let number = unsafe {
-            raw::gyodaebeun_fresh(
-                self.record.cells().as_mut_ptr(),
-                nodes,
-                slots,
-                limit,
-                rule,
-                self.waiting.cells().as_mut_ptr(),
-                self.waiting.cells().len(),
-                self.posted.cells().as_mut_ptr(),
-                self.posted.cells().len(),
-                self.sent.cells().as_mut_ptr(),
-                self.sent.cells().len(),
-                self.dropped.cells().as_mut_ptr(),
-                self.dropped.cells().len(),
-                &mut place,
-            )
-        };
+        let number = raw::fresh(
+            &mut self.record.cells()[0],
+            nodes,
+            slots,
+            limit,
+            rule,
+            self.waiting.cells(),
+            self.posted.cells(),
+            self.sent.cells(),
+            self.dropped.cells(),
+            &mut place,
+        );
         (number, place)
     }
 
@@ -196,48 +190,32 @@ impl Loan {
         let before = Lent::new(arrivals, 0);
         let mut arrivals = before.clone();
         let mut place = u32::MAX;
-        let number = unsafe {
-            raw::gyodaebeun_post(
-                self.record.cells().as_mut_ptr(),
-                arrivals.cells().as_ptr(),
-                arrivals.cells().len(),
-                self.waiting.cells().as_mut_ptr(),
-                self.waiting.cells().len(),
-                self.posted.cells().as_mut_ptr(),
-                self.posted.cells().len(),
-                self.sent.cells().as_ptr(),
-                self.sent.cells().len(),
-                self.dropped.cells().as_mut_ptr(),
-                self.dropped.cells().len(),
-                &mut place,
-            )
-        };
+        let number = raw::post(
+            &mut self.record.cells()[0],
+            arrivals.cells(),
+            self.waiting.cells(),
+            self.posted.cells(),
+            self.sent.cells(),
+            self.dropped.cells(),
+            &mut place,
+        );
         assert_eq!(arrivals, before, "the arrivals were written to");
         (number, place)
     }
 
     fn frame_in_c(&mut self) -> Said {
         let mut report = [u32::MAX; 4];
-        let number = unsafe {
-            raw::gyodaebeun_frame(
-                self.record.cells().as_mut_ptr(),
-                self.waiting.cells().as_mut_ptr(),
-                self.waiting.cells().len(),
-                self.posted.cells().as_ptr(),
-                self.posted.cells().len(),
-                self.sent.cells().as_mut_ptr(),
-                self.sent.cells().len(),
-                self.dropped.cells().as_ptr(),
-                self.dropped.cells().len(),
-                self.kept.cells().as_mut_ptr(),
-                self.kept.cells().len(),
-                self.withdrawn.cells().as_mut_ptr(),
-                self.withdrawn.cells().len(),
-                self.schedule.cells().as_mut_ptr(),
-                self.schedule.cells().len(),
-                &mut report,
-            )
-        };
+        let number = raw::frame(
+            &mut self.record.cells()[0],
+            self.waiting.cells(),
+            self.posted.cells(),
+            self.sent.cells(),
+            self.dropped.cells(),
+            self.kept.cells(),
+            self.withdrawn.cells(),
+            self.schedule.cells(),
+            &mut report,
+        );
         let [place, kept, refused, reconfigurations] = report;
         let totals = Totals {
             kept,

@@ -76,24 +76,16 @@ impl Tables {
 /// The answer of the C entry, with the totals and the reconfigurations that it reports.
 fn by_c(input: &Input, tables: &mut Tables) -> (Answer, Totals) {
     let mut report = [u32::MAX; 4];
-    let (kept, withdrawn) = (tables.kept.cells(), tables.withdrawn.cells());
-    let (demand, schedule) = (tables.demand.cells(), tables.schedule.cells());
-    let number = unsafe {
-        raw::gyodaebeun_plan(
-            input.nodes,
-            input.slots,
-            input.rule,
-            demand.as_mut_ptr(),
-            demand.len(),
-            kept.as_mut_ptr(),
-            kept.len(),
-            withdrawn.as_mut_ptr(),
-            withdrawn.len(),
-            schedule.as_mut_ptr(),
-            schedule.len(),
-            &mut report,
-        )
-    };
+    let number = raw::plan(
+        input.nodes,
+        input.slots,
+        input.rule,
+        tables.demand.cells(),
+        tables.kept.cells(),
+        tables.withdrawn.cells(),
+        tables.schedule.cells(),
+        &mut report,
+    );
     let [place, kept, refused, reconfigurations] = report;
     let totals = Totals {
         kept,

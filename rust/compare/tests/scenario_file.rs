@@ -55,21 +55,16 @@ fn by_c(input: &Input, file: &mut Lent<u8>) -> (Answer, usize) {
     let cells = Lent::new(&input.cells, u32::MAX);
     let (mut lent_kinds, mut lent_cells) = (kinds.clone(), cells.clone());
     let mut report = [u32::MAX; 2];
-    let number = unsafe {
-        raw::gyodaebeun_write_scenario(
-            input.nodes,
-            input.slots,
-            input.limit,
-            input.rule,
-            lent_kinds.cells().as_ptr(),
-            lent_kinds.cells().len(),
-            lent_cells.cells().as_ptr(),
-            lent_cells.cells().len(),
-            file.cells().as_mut_ptr(),
-            file.cells().len(),
-            &mut report,
-        )
-    };
+    let number = raw::write_scenario(
+        input.nodes,
+        input.slots,
+        input.limit,
+        input.rule,
+        lent_kinds.cells(),
+        lent_cells.cells(),
+        file.cells(),
+        &mut report,
+    );
     assert!(lent_kinds == kinds && lent_cells == cells, "{input:?}");
     let [place, length] = report;
     ((number, place), length as usize)

@@ -42,17 +42,7 @@ fn compared(input: &Input) -> (Answer, Vec<i32>) {
 
     let mut slacks = before.clone();
     let mut place = u32::MAX;
-    let number = unsafe {
-        raw::gyodaebeun_slacks(
-            nodes,
-            slots,
-            demand.cells().as_mut_ptr(),
-            demand.cells().len(),
-            slacks.cells().as_mut_ptr(),
-            slacks.cells().len(),
-            &mut place,
-        )
-    };
+    let number = raw::slacks(nodes, slots, demand.cells(), slacks.cells(), &mut place);
     assert_eq!((number, place), answer, "{input:?}");
     assert_eq!(slacks, expected, "{input:?}");
     assert_eq!(demand, asked, "the demand was written to: {input:?}");

@@ -5,7 +5,7 @@
 //! Tables as everywhere: pair (i,j) is cell i×N+j, lines 0 to N−1 are the rows, line N+j is column
 //! j. A longer table than needed is accepted; its extra cells are neither read nor changed.
 
-pub mod raw;
+mod raw;
 
 /// The slots that each pair keeps under the fair rule, from its demands and the capacities of the
 /// 2N lines.
@@ -115,6 +115,17 @@ pub fn place(n: usize, slots: usize, kept: &mut [u32], schedule: &mut [u8]) -> u
     ask_cells(n, kept);
     ask_frame(n, slots, schedule);
     ask_admissible(n, slots, kept);
+    unsafe { place_untested(n, slots, kept, schedule) }
+}
+
+/// [`place`] alone, of which the stack can be measured.
+///
+/// # Safety
+///
+/// All that [`place`] tests must hold: up to 64 nodes and 1,024 slots, tables that are long enough,
+/// and no line of `kept` above L.
+#[inline]
+pub unsafe fn place_untested(n: usize, slots: usize, kept: &mut [u32], schedule: &mut [u8]) -> u32 {
     unsafe {
         raw::lab_place(
             n,
@@ -240,12 +251,12 @@ mod tests {
         assert_eq!(t.withdrawn, [2, 0, 0, 0]);
         keep(&mut t);
         assert_eq!(t.kept, [1, 3, 3, 0]);
-        let changes = super::place(t.n, t.slots, &mut t.kept, &mut t.schedule);
+        let reconfigurations = super::place(t.n, t.slots, &mut t.kept, &mut t.schedule);
         assert_eq!(t.kept, [1, 3, 3, 0]);
         let mut slots: Vec<&[u8]> = t.schedule.chunks(2).collect();
         slots.sort_unstable();
         assert_eq!(slots, [[0, 255], [1, 0], [1, 0], [1, 0]]);
-        assert_eq!(changes, 1);
+        assert_eq!(reconfigurations, 1);
         fair_cut(&mut t);
         assert_eq!(t.kept, [2, 2, 2, 0]);
         largest(&mut t);

@@ -65,10 +65,6 @@ pub use refusal::Refusal;
 pub use run::{Books, Run};
 pub use scenario::{FRAME, POST, TEXT_BYTES, play_scenario, write_scenario};
 
-// Where the library is called, here, in `run` and in `scenario`, each pointer comes with the length
-// of the slice that it was taken from, and nothing that is written overlaps anything: slices,
-// record, place and report are borrowed exclusively, but for slices that are only read.
-
 /// The slack of each line, L minus the line's sum, into the first 2N cells of `slacks`: the rows,
 /// then the columns. A line overflows where its slack is negative.
 ///
@@ -77,17 +73,7 @@ pub use scenario::{FRAME, POST, TEXT_BYTES, play_scenario, write_scenario};
 /// written.
 pub fn slacks(nodes: u32, slots: u32, demand: &[u32], slacks: &mut [i32]) -> Result<(), Refusal> {
     let mut place = 0;
-    let number = unsafe {
-        raw::gyodaebeun_slacks(
-            nodes,
-            slots,
-            demand.as_ptr(),
-            demand.len(),
-            slacks.as_mut_ptr(),
-            slacks.len(),
-            &mut place,
-        )
-    };
+    let number = raw::slacks(nodes, slots, demand, slacks, &mut place);
     Refusal::given(number, place)
 }
 
@@ -151,21 +137,15 @@ pub fn plan(
     schedule: &mut [u8],
 ) -> Result<Plan, Refusal> {
     let mut report = [0; 4];
-    let number = unsafe {
-        raw::gyodaebeun_plan(
-            nodes,
-            slots,
-            rule,
-            demand.as_ptr(),
-            demand.len(),
-            kept.as_mut_ptr(),
-            kept.len(),
-            withdrawn.as_mut_ptr(),
-            withdrawn.len(),
-            schedule.as_mut_ptr(),
-            schedule.len(),
-            &mut report,
-        )
-    };
+    let number = raw::plan(
+        nodes,
+        slots,
+        rule,
+        demand,
+        kept,
+        withdrawn,
+        schedule,
+        &mut report,
+    );
     Plan::given(number, report)
 }

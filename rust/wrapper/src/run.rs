@@ -57,24 +57,18 @@ impl Run {
         books: &mut Books<'_>,
     ) -> Result<(), Refusal> {
         let mut place = 0;
-        let number = unsafe {
-            raw::gyodaebeun_fresh(
-                self,
-                nodes,
-                slots,
-                limit,
-                rule,
-                books.waiting.as_mut_ptr(),
-                books.waiting.len(),
-                books.posted.as_mut_ptr(),
-                books.posted.len(),
-                books.sent.as_mut_ptr(),
-                books.sent.len(),
-                books.dropped.as_mut_ptr(),
-                books.dropped.len(),
-                &mut place,
-            )
-        };
+        let number = raw::fresh(
+            self,
+            nodes,
+            slots,
+            limit,
+            rule,
+            books.waiting,
+            books.posted,
+            books.sent,
+            books.dropped,
+            &mut place,
+        );
         Refusal::given(number, place)
     }
 
@@ -88,22 +82,15 @@ impl Run {
     /// posts, and [`Refusal::DemandAbove`]; then neither the record nor a table is changed.
     pub fn post(&mut self, arrivals: &[u32], books: &mut Books<'_>) -> Result<(), Refusal> {
         let mut place = 0;
-        let number = unsafe {
-            raw::gyodaebeun_post(
-                self,
-                arrivals.as_ptr(),
-                arrivals.len(),
-                books.waiting.as_mut_ptr(),
-                books.waiting.len(),
-                books.posted.as_mut_ptr(),
-                books.posted.len(),
-                books.sent.as_ptr(),
-                books.sent.len(),
-                books.dropped.as_mut_ptr(),
-                books.dropped.len(),
-                &mut place,
-            )
-        };
+        let number = raw::post(
+            self,
+            arrivals,
+            books.waiting,
+            books.posted,
+            books.sent,
+            books.dropped,
+            &mut place,
+        );
         Refusal::given(number, place)
     }
 
@@ -124,26 +111,17 @@ impl Run {
         schedule: &mut [u8],
     ) -> Result<Plan, Refusal> {
         let mut report = [0; 4];
-        let number = unsafe {
-            raw::gyodaebeun_frame(
-                self,
-                books.waiting.as_mut_ptr(),
-                books.waiting.len(),
-                books.posted.as_ptr(),
-                books.posted.len(),
-                books.sent.as_mut_ptr(),
-                books.sent.len(),
-                books.dropped.as_ptr(),
-                books.dropped.len(),
-                kept.as_mut_ptr(),
-                kept.len(),
-                withdrawn.as_mut_ptr(),
-                withdrawn.len(),
-                schedule.as_mut_ptr(),
-                schedule.len(),
-                &mut report,
-            )
-        };
+        let number = raw::frame(
+            self,
+            books.waiting,
+            books.posted,
+            books.sent,
+            books.dropped,
+            kept,
+            withdrawn,
+            schedule,
+            &mut report,
+        );
         Plan::given(number, report)
     }
 }

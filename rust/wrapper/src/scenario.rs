@@ -53,21 +53,7 @@ pub fn write_scenario(
     file: &mut [u8],
 ) -> Result<usize, Refusal> {
     let mut report = [0; 2];
-    let number = unsafe {
-        raw::gyodaebeun_write_scenario(
-            nodes,
-            slots,
-            limit,
-            rule,
-            kinds.as_ptr(),
-            kinds.len(),
-            cells.as_ptr(),
-            cells.len(),
-            file.as_mut_ptr(),
-            file.len(),
-            &mut report,
-        )
-    };
+    let number = raw::write_scenario(nodes, slots, limit, rule, kinds, cells, file, &mut report);
     length(number, report)
 }
 
@@ -95,15 +81,7 @@ pub fn write_scenario(
 /// nothing is written. This call needs 220 KiB of stack.
 pub fn play_scenario(file: &[u8], text: &mut [u8]) -> Result<usize, Refusal> {
     let mut report = [0; 2];
-    let number = unsafe {
-        raw::gyodaebeun_play_scenario(
-            file.as_ptr(),
-            file.len(),
-            text.as_mut_ptr(),
-            text.len(),
-            &mut report,
-        )
-    };
+    let number = raw::play_scenario(file, text, &mut report);
     length(number, report)
 }
 
