@@ -1,14 +1,24 @@
 //! What the comparisons share: lent tables whose surroundings are watched, answers that both
 //! programs give in their own words, stars for the inner layers, the parties to a run, the player of
-//! a scenario, the proved programs, and calls whose stack is measured.
+//! a scenario, the proved programs, calls whose stack is measured, and signatures in three
+//! languages.
 
 pub mod calls;
 pub mod program;
 pub mod run;
 pub mod scenario;
+pub mod signatures;
+
+use std::path::Path;
 
 use second::inputs::{FAMILIES, Random};
 use second::matrix::Matrix;
+
+/// The folder of the repository.
+pub fn repository() -> &'static Path {
+    let here = Path::new(env!("CARGO_MANIFEST_DIR"));
+    here.ancestors().nth(2).expect("rust/ lies in it")
+}
 
 /// A table lent from the middle of a longer one, so that a write outside it shows.
 #[derive(Clone, Debug, PartialEq, Eq)]
