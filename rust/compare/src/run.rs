@@ -1,14 +1,14 @@
 //! A run as three parties hold it: the second program, the library called in C and the library
 //! called in Rust. Every call is made to all three, and then they hold the same.
 
-use gyodaebeun::{Plan, Run, raw};
+use gyodaebeun::{Run, raw};
 use second::limits::LEAST;
 use second::matrix::{Matrix, full_capacity};
-use second::plan::{Totals, Written};
+use second::plan::{Report, Written};
 use second::run::{self, Books, Record};
 use second::{judge, least, schedule};
 
-use crate::{Answer, Lent, by_library, by_second};
+use crate::{Answer, Lent, Said, by_library, by_second, said_in_c, said_in_rust};
 
 /// One call of a run.
 #[derive(Clone, Debug)]
@@ -84,17 +84,17 @@ impl State {
     /// Takes over the plan that the library wrote for an accepted frame, once it is judged; the
     /// books go on with what its schedule carries.
     #[track_caller]
-    fn carry(&mut self, library: &mut Loan, totals: Totals) {
+    fn carry(&mut self, library: &mut Loan, report: Report) {
         let Record { slots, rule, .. } = self.record;
         let demand = Matrix::read(self.record.nodes as usize, &self.books.waiting);
         let bytes = demand.nodes() * slots as usize;
         self.take_over(library, bytes);
-        let judged = judge::plan(&demand, slots as usize, rule, &self.written, totals);
+        let judged = judge::plan(&demand, slots as usize, rule, &self.written, report);
         assert_eq!(judged, Ok(()), "{self:?}");
         if rule == LEAST {
             let capacity = full_capacity(demand.nodes(), slots as usize);
             let most = demand.total() - least::refused(&demand, &capacity);
-            assert_eq!(i64::from(totals.kept), most, "{self:?}");
+            assert_eq!(i64::from(report.kept), most, "{self:?}");
         }
         let carried = schedule::counts(demand.nodes(), &self.written.schedule[..bytes]);
         run::send(&mut self.record, &mut self.books, &carried);
@@ -114,14 +114,10 @@ impl State {
     }
 }
 
-/// What a call answers and, if it is a frame, reports; zeros for any other call.
-type Said = (Answer, Totals);
-
-const NOTHING: Totals = Totals {
-    kept: 0,
-    refused: 0,
-    reconfigurations: 0,
-};
+/// What a call says that is no frame.
+fn unreported(answer: Answer) -> Said {
+    (answer, Report::default())
+}
 
 /// The same record and tables, lent to the library with watched cells around each.
 #[derive(Clone, Debug, PartialEq, Eq)]
@@ -163,8 +159,8 @@ impl Loan {
                 slots,
                 limit,
                 rule,
-            } => (self.fresh_in_c(nodes, slots, limit, rule), NOTHING),
-            Call::Post(ref arrivals) => (self.post_in_c(arrivals), NOTHING),
+            } => unreported(self.fresh_in_c(nodes, slots, limit, rule)),
+            Call::Post(ref arrivals) => unreported(self.post_in_c(arrivals)),
             Call::Frame => self.frame_in_c(),
         }
     }
@@ -216,13 +212,7 @@ impl Loan {
             self.schedule.cells(),
             &mut report,
         );
-        let [place, kept, refused, reconfigurations] = report;
-        let totals = Totals {
-            kept,
-            refused,
-            reconfigurations,
-        };
-        ((number, place), totals)
+        said_in_c(number, report)
     }
 
     fn in_rust(&mut self, call: &Call) -> Said {
@@ -241,13 +231,12 @@ impl Loan {
                 rule,
             } => {
                 let answer = run.fresh(nodes, slots, limit, rule, &mut books);
-                (by_library(answer), NOTHING)
+                unreported(by_library(answer))
             }
-            Call::Post(ref arrivals) => (by_library(run.post(arrivals, &mut books)), NOTHING),
+            Call::Post(ref arrivals) => unreported(by_library(run.post(arrivals, &mut books))),
             Call::Frame => {
                 let (kept, withdrawn) = (self.kept.cells(), self.withdrawn.cells());
-                let frame = run.frame(&mut books, kept, withdrawn, self.schedule.cells());
-                (by_library(frame), frame.map_or(NOTHING, reported))
+                said_in_rust(run.frame(&mut books, kept, withdrawn, self.schedule.cells()))
             }
         }
     }
@@ -261,14 +250,6 @@ fn as_lent(record: &Record) -> Run {
         rule: record.rule,
         posts: record.posts,
         frames: record.frames,
-    }
-}
-
-fn reported(plan: Plan) -> Totals {
-    Totals {
-        kept: plan.kept,
-        refused: plan.refused,
-        reconfigurations: plan.reconfigurations,
     }
 }
 
@@ -362,15 +343,15 @@ impl Parties {
     #[track_caller]
     pub fn call(&mut self, call: &Call) -> Answer {
         let before = self.state.clone();
-        let (answer, totals) = self.in_c.in_c(call);
+        let (answer, report) = self.in_c.in_c(call);
         let again = self.in_rust.in_rust(call);
-        assert_eq!(again, (answer, totals), "{call:?} on {before:?}");
+        assert_eq!(again, (answer, report), "{call:?} on {before:?}");
         let expected = self.state.follow(call);
         assert_eq!(answer, expected, "{call:?} on {before:?}");
         if answer == (0, 0) {
-            self.accepted(call, totals);
+            self.accepted(call, report);
         } else {
-            assert_eq!(totals, NOTHING, "{call:?} on {before:?}");
+            assert_eq!(report, Report::default(), "{call:?} on {before:?}");
             assert_eq!(self.state, before, "{call:?}");
         }
         let held = Loan::of(&self.state);
@@ -380,9 +361,9 @@ impl Parties {
     }
 
     #[track_caller]
-    fn accepted(&mut self, call: &Call, totals: Totals) {
+    fn accepted(&mut self, call: &Call, report: Report) {
         if let Call::Frame = call {
-            self.state.carry(&mut self.in_c, totals);
+            self.state.carry(&mut self.in_c, report);
         }
         self.ledger.enter(call, &self.state);
         let agrees = self.ledger.agrees(&self.state);

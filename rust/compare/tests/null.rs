@@ -175,8 +175,8 @@ fn reported(number: u32, [place, kept, refused, reconfigurations]: [u32; 4]) -> 
     [number, place, kept, refused, reconfigurations]
 }
 
-/// What a scenario is written from and to.
-struct Written {
+/// The tables of a call that writes a scenario.
+struct Writing {
     kinds: Vec<u32>,
     cells: Vec<u32>,
     file: Vec<u8>,
@@ -187,7 +187,7 @@ struct Written {
 fn write_scenario() {
     for (nodes, choice) in choices(3) {
         let pairs = (nodes * nodes) as usize;
-        let mut tables = Written {
+        let mut tables = Writing {
             kinds: vec![POST],
             cells: vec![1; pairs],
             file: vec![7; 28 + 2 * pairs],
@@ -214,8 +214,8 @@ fn write_scenario() {
     }
 }
 
-/// What a scenario is played from and to.
-struct Played {
+/// The tables of a call that plays one.
+struct Playing {
     file: Vec<u8>,
     text: Vec<u8>,
 }
@@ -223,7 +223,7 @@ struct Played {
 #[test]
 fn play_scenario() {
     for choice in 1..4 {
-        let mut tables = Played {
+        let mut tables = Playing {
             file: vec![0; 20],
             text: vec![7; TEXT_BYTES],
         };

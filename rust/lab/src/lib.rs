@@ -27,21 +27,21 @@ pub fn fair_cut(n: usize, capacity: &[u32], demand: &[u32], kept: &mut [u32]) {
     }
 }
 
-/// Of all matrices that are at most `bound` at each cell and whose line sums are at most the limits
-/// in `room`, one with the greatest total, in `a`, and in `marks` a byte for each line that proves
-/// it so. Each limit gives way to what its line may still take.
-pub fn largest(n: usize, bound: &[u32], room: &mut [u32], a: &mut [u32], marks: &mut [u8]) {
+/// Of all matrices that are at most `bound` at each cell and whose line sums are at most the
+/// ceilings in `headroom`, one with the greatest total, in `a`, and in `marks` a byte for each line
+/// that proves it so. Each ceiling gives way to what its line may still take.
+pub fn largest(n: usize, bound: &[u32], headroom: &mut [u32], a: &mut [u32], marks: &mut [u8]) {
     ask_demands(n, bound);
     ask_cells(n, a);
-    ask_lines(n, room);
+    ask_lines(n, headroom);
     ask_lines(n, marks);
     unsafe {
         raw::lab_largest(
             n,
             bound.as_ptr(),
             bound.len(),
-            room.as_mut_ptr(),
-            room.len(),
+            headroom.as_mut_ptr(),
+            headroom.len(),
             a.as_mut_ptr(),
             a.len(),
             marks.as_mut_ptr(),
@@ -190,7 +190,7 @@ fn ask_admissible(n: usize, slots: usize, kept: &[u32]) {
 mod tests {
     use std::panic::{AssertUnwindSafe, catch_unwind};
 
-    /// What the layers are called with; the limits of `largest` are the capacities.
+    /// What the layers are called with; the ceilings of `largest` are the capacities.
     struct Tables {
         n: usize,
         slots: usize,

@@ -11,36 +11,36 @@ pub const SLOTS: u32 = 1_024;
 const QUEUE_LIMIT: u32 = 65_535;
 const PAIRS: usize = (NODES * NODES) as usize;
 
-/// A call, and the rule under which it is made.
+/// A call whose stack is measured, and the rule under which it is made.
 #[derive(Clone, Copy)]
-pub struct Call {
+pub struct Measured {
     pub name: &'static str,
     rule: u32,
     /// Gives a refusal's number, 0 for an accepted call.
     call: fn(&mut Tables) -> u32,
 }
 
-pub const CALLS: [Call; 12] = [
-    Call::new("slacks", FAIR, slacks),
-    Call::new("plan, fair", FAIR, plan),
-    Call::new("plan, least", LEAST, plan),
-    Call::new("fresh", FAIR, fresh),
-    Call::new("post", FAIR, post),
-    Call::new("frame, fair", FAIR, frame),
-    Call::new("frame, least", LEAST, frame),
-    Call::new("write_scenario", FAIR, write_scenario),
-    Call::new("play_scenario, fair", FAIR, play_scenario),
-    Call::new("play_scenario, least", LEAST, play_scenario),
-    Call::new("placement, fair", FAIR, place),
-    Call::new("placement, least", LEAST, place),
+pub const MEASURED: [Measured; 12] = [
+    Measured::new("slacks", FAIR, slacks),
+    Measured::new("plan, fair", FAIR, plan),
+    Measured::new("plan, least", LEAST, plan),
+    Measured::new("fresh", FAIR, fresh),
+    Measured::new("post", FAIR, post),
+    Measured::new("frame, fair", FAIR, frame),
+    Measured::new("frame, least", LEAST, frame),
+    Measured::new("write_scenario", FAIR, write_scenario),
+    Measured::new("play_scenario, fair", FAIR, play_scenario),
+    Measured::new("play_scenario, least", LEAST, play_scenario),
+    Measured::new("placement, fair", FAIR, place),
+    Measured::new("placement, least", LEAST, place),
 ];
 
 /// What measuring itself adds to each of them.
-pub const NO_CALL: Call = Call::new("no call", FAIR, |_| 0);
+pub const NO_CALL: Measured = Measured::new("no call", FAIR, |_| 0);
 
 /// The call of this name.
-pub fn call(name: &str) -> Call {
-    let named = CALLS.into_iter().find(|call| call.name == name);
+pub fn measured(name: &str) -> Measured {
+    let named = MEASURED.into_iter().find(|call| call.name == name);
     named.expect("there is such a call")
 }
 
@@ -52,9 +52,9 @@ pub struct Taken {
     pub family: &'static str,
 }
 
-impl Call {
-    const fn new(name: &'static str, rule: u32, call: fn(&mut Tables) -> u32) -> Call {
-        Call { name, rule, call }
+impl Measured {
+    const fn new(name: &'static str, rule: u32, call: fn(&mut Tables) -> u32) -> Measured {
+        Measured { name, rule, call }
     }
 
     /// The stack that it takes on so many demands of each family.
