@@ -254,11 +254,12 @@ uint32_t gyodaebeun_write_scenario(uint32_t nodes, uint32_t slots, uint32_t limi
  * parts of one, and bytes of no matrix are not looked at.
  *
  * Bytes that are no scenario are not refused: the text says so. It is "bad input" for more than
- * 65536 bytes. Otherwise, before anything is played, it is "refused" with a number and a place, as
- * "refused 10 0": 1 to 3 or 7 for what the table holds; 10 with place 0 for a table that is cut short
- * or has more than 4096 entries; 10 with the first entry that is neither a post nor a frame, that is
- * a frame with a place other than 0, or whose matrix does not lie wholly between the table and the
- * end of the file. Every line of the text ends with a line feed; no zero byte follows the last.
+ * 65536 bytes. Otherwise, before anything is played, it is "refused" with the number and the place
+ * of the first check that fires, as "refused 10 0": 1 to 3 or 7 for what the table holds; 10 with
+ * place 0 for a table that is cut short or has more than 4096 entries; 10 with the first entry that
+ * is neither a post nor a frame, that is a frame with a place other than 0, or whose matrix does not
+ * lie wholly between the table and the end of the file. Every line of the text ends with a line feed;
+ * no zero byte follows the last.
  *
  * file    any bytes, read
  * text    GYODAEBEUN_TEXT_BYTES bytes, of which the text is written and no more

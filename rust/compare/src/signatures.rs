@@ -116,11 +116,11 @@ fn tokens(source: &str) -> Vec<&str> {
             _ if is_word(first) => rest.find(|sign| !is_word(sign)),
             _ => Some(first.len_utf8()),
         };
-        let (token, behind) = rest.split_at(end.unwrap_or(rest.len()));
+        let (token, after) = rest.split_at(end.unwrap_or(rest.len()));
         if !comment && !first.is_whitespace() {
             tokens.push(token);
         }
-        rest = behind;
+        rest = after;
     }
     tokens
 }
@@ -141,8 +141,8 @@ fn until<'a>(tokens: &'a [&'a str], end: &str) -> &'a [&'a str] {
     &tokens[..length.unwrap_or(tokens.len())]
 }
 
-/// A function from its name on, in Rust's notation; what a parameter is says `parameter`, by its
-/// name and its type.
+/// A function from its name on, in Rust's notation; `parameter` gives the parts that a parameter of
+/// this name and type is.
 fn function(tokens: &[&str], parameter: impl Fn(&str, &[&str]) -> Vec<String>) -> Declaration {
     let [name, "(", rest @ ..] = tokens else {
         panic!("{tokens:?} begins no function");

@@ -69,12 +69,12 @@ pub fn write_scenario(
 /// parts of one, and bytes of no matrix are not looked at.
 ///
 /// Bytes that are no scenario are not refused: the text says so. It is `bad input` for more than
-/// 65,536 bytes. Otherwise, before anything is played, it is `refused` with a number and a place,
-/// as `refused 10 0`: 1 to 3 or 7, as [`Refusal`] has them, for what the table holds; 10 with place
-/// 0 for a table that is cut short or has more than 4,096 entries; 10 with the first entry, counted
-/// from 0, that is neither a post nor a frame, that is a frame with a place other than 0, or whose
-/// matrix does not lie wholly between the table and the end of the file. Every line ends with a line
-/// feed.
+/// 65,536 bytes. Otherwise, before anything is played, it is `refused` with the number and the place
+/// of the first check that fires, as `refused 10 0`: 1 to 3 or 7, as [`Refusal`] has them, for what
+/// the table holds; 10 with place 0 for a table that is cut short or has more than 4,096 entries; 10
+/// with the first entry, counted from 0, that is neither a post nor a frame, that is a frame with a
+/// place other than 0, or whose matrix does not lie wholly between the table and the end of the
+/// file. Every line ends with a line feed.
 ///
 /// Refused by [`Refusal::TableShort`], exactly if `text` has fewer than [`TEXT_BYTES`] bytes; then
 /// nothing is written. This call needs 220 KiB of stack.
