@@ -14,8 +14,8 @@
  *   9  this kind of call was accepted 1000000 times or more already
  *  10  what is no scenario; the place is its entry, counted from 0, or 0 where it is about none
  *
- * Checks run in the order 1, 2, 3, 7, 4, 5, 8, 9, 6 as far as they apply to the entry, and the
- * first that fires is given; where 10 stands is said at the entries about scenarios. The place is 0
+ * Each entry names those that it can give. Where several apply, the first in the order of the checks
+ * is given; README.md of the repository has that order, under "What is refused". The place is 0
  * unless said otherwise; of several bad cells, or entries, the first one is given. A refusal changes
  * no table and nothing in the record of a run; it writes the place, and zeros to the rest of a
  * report.
@@ -76,12 +76,12 @@ extern "C" {
 /* The slack of each line: L minus the line's sum, negative where the line overflows.
  *
  * demand  N * N cells, read
- * slacks  2 * N cells in line order, written
+ * table   2 * N cells in line order, written
  *
- * Refusals: 1, 2, 4, 5, 6, in this order. */
+ * Refusals: 1, 2, 4 to 6. */
 uint32_t gyodaebeun_slacks(uint32_t nodes, uint32_t slots,
                            const uint32_t *demand, size_t demand_length,
-                           int32_t *slacks, size_t slacks_length,
+                           int32_t *table, size_t table_length,
                            uint32_t *place);
 
 /* The slots that each pair keeps, and how a frame carries them.
@@ -91,9 +91,9 @@ uint32_t gyodaebeun_slacks(uint32_t nodes, uint32_t slots,
  * kept       N * N cells, written
  * withdrawn  N * N cells, written: what the least rule withdrew, zeros under the fair rule
  * schedule   L * N bytes, written
- * report     4 cells, written: the place, the kept total, the refused total, and the number of
- *            slots that differ from the one before for some destination, idle being a value like
- *            any other
+ * report     4 cells, written: the place, the kept total, the refused total and the
+ *            reconfigurations: how many slots differ from the one before for some destination, idle
+ *            being a value like any other
  *
  * The fair rule: as long as the sum of some line is above L, each such line has the fraction
  * (L - b) / a, where b is the sum of its cells that were cut before and a that of the others, and
@@ -118,7 +118,7 @@ uint32_t gyodaebeun_slacks(uint32_t nodes, uint32_t slots,
  * Where several plans are right, in which slots a pair sends or in what is withdrawn, the library
  * chooses one.
  *
- * Refusals: 1, 2, 3, 4, 5, 6, in this order. */
+ * Refusals: 1 to 6. */
 uint32_t gyodaebeun_plan(uint32_t nodes, uint32_t slots, uint32_t rule,
                          const uint32_t *demand, size_t demand_length,
                          uint32_t *kept, size_t kept_length,
@@ -161,7 +161,7 @@ struct gyodaebeun_run {
  * sent     N * N cells, written
  * dropped  N * N cells, written
  *
- * Refusals: 1, 2, 3, 7, 5, in this order. */
+ * Refusals: 1 to 3, 5, 7. */
 uint32_t gyodaebeun_fresh(struct gyodaebeun_run *run,
                           uint32_t nodes, uint32_t slots, uint32_t limit, uint32_t rule,
                           uint32_t *waiting, size_t waiting_length,
@@ -180,7 +180,7 @@ uint32_t gyodaebeun_fresh(struct gyodaebeun_run *run,
  * sent      N * N cells, read
  * dropped   N * N cells, read and written
  *
- * Refusals: 1, 2, 3, 7 (all of what the record holds), 4, 5, 8, 9, 6, in this order. */
+ * Refusals: 1 to 9; of these 1 to 3 and 7 for what the record holds. */
 uint32_t gyodaebeun_post(struct gyodaebeun_run *run,
                          const uint32_t *arrivals, size_t arrivals_length,
                          uint32_t *waiting, size_t waiting_length,
@@ -203,8 +203,8 @@ uint32_t gyodaebeun_post(struct gyodaebeun_run *run,
  * schedule   L * N bytes, written
  * report     4 cells, written
  *
- * Refusals: 1, 2, 3, 7 (all of what the record holds), 5 (any of the seven tables), 8, 9, in this
- * order. */
+ * Refusals: 1 to 3, 5, 7 to 9; of these 1 to 3 and 7 for what the record holds, 5 for any of the
+ * seven tables. */
 uint32_t gyodaebeun_frame(struct gyodaebeun_run *run,
                           uint32_t *waiting, size_t waiting_length,
                           const uint64_t *posted, size_t posted_length,
@@ -233,9 +233,8 @@ uint32_t gyodaebeun_frame(struct gyodaebeun_run *run,
  * file    as many bytes as the length, written
  * report  2 cells, written: the place and the length
  *
- * Refusals: 10 with place 0 for more than 4096 entries, 1, 2, 3, 7, 10 with the first entry that is
- * neither a post nor a frame, 4, 5, 6 with the first such cell, counted on from post to post, in
- * this order. */
+ * Refusals: 1 to 7, 10; the cell of 6 is counted on from post to post, and 10 is given with place 0
+ * for more than 4096 entries, or with the first entry that is neither a post nor a frame. */
 uint32_t gyodaebeun_write_scenario(uint32_t nodes, uint32_t slots, uint32_t limit, uint32_t rule,
                                    const uint32_t *kinds, size_t kinds_length,
                                    const uint32_t *cells, size_t cells_length,
@@ -255,11 +254,12 @@ uint32_t gyodaebeun_write_scenario(uint32_t nodes, uint32_t slots, uint32_t limi
  * parts of one, and bytes of no matrix are not looked at.
  *
  * Bytes that are no scenario are not refused: the text says so. It is "bad input" for more than
- * 65536 bytes. Otherwise, before anything is played, it is "refused" with a number and a place, as
- * "refused 10 0", for the first of these: 10 with place 0 for a table that is cut short or has more
- * than 4096 entries; 1, 2, 3, 7; 10 with the first entry that is neither a post nor a frame, that is
- * a frame with a place other than 0, or whose matrix does not lie wholly between the table and the
- * end of the file. Every line of the text ends with a line feed; no zero byte follows the last.
+ * 65536 bytes. Otherwise, before anything is played, it is "refused" with the number and the place
+ * of the first check that fires, as "refused 10 0": 1 to 3 or 7 for what the table holds; 10 with
+ * place 0 for a table that is cut short or has more than 4096 entries; 10 with the first entry that
+ * is neither a post nor a frame, that is a frame with a place other than 0, or whose matrix does not
+ * lie wholly between the table and the end of the file. Every line of the text ends with a line feed;
+ * no zero byte follows the last.
  *
  * file    any bytes, read
  * text    GYODAEBEUN_TEXT_BYTES bytes, of which the text is written and no more

@@ -241,14 +241,14 @@ fn plan_second(w: &mut Work, rule: u32) {
 pub type Count = fn(&Work) -> usize;
 
 /// Reconfigurations of the library's schedules, and a bound that no schedule stays below.
-pub const CHANGES: [(&str, Count); 4] = [
-    ("least, library", |w| changes(w, &w.least)),
+pub const RECONFIGURATIONS: [(&str, Count); 4] = [
+    ("least, library", |w| reconfigurations(w, &w.least)),
     ("least, bound", |w| fewest(w, &w.least)),
-    ("fair, library", |w| changes(w, &w.fair)),
+    ("fair, library", |w| reconfigurations(w, &w.fair)),
     ("fair, bound", |w| fewest(w, &w.fair)),
 ];
 
-fn changes(w: &Work, written: &Written) -> usize {
+fn reconfigurations(w: &Work, written: &Written) -> usize {
     schedule::reconfigurations(w.n, &written.schedule)
 }
 

@@ -10,8 +10,8 @@ mod columns;
 mod figures;
 mod lemon;
 
-use columns::{CHANGES, Column, Count, FLOW, KEPT, PLACEMENT, PLAN, Program, Work};
-use compare::calls::{CALLS, Taken};
+use columns::{Column, Count, FLOW, KEPT, PLACEMENT, PLAN, Program, RECONFIGURATIONS, Work};
+use compare::measured::{MEASURED, Taken};
 use figures::{Figures, print_header, print_numbers, print_row};
 use second::inputs::{FAMILIES, Family, Random};
 
@@ -38,7 +38,7 @@ fn main() {
     let mut families = by_family(64, 1_024);
     print_times("N 64, L 1,024", "family", &mut families, |_| true);
     print_stack("N 64, L 1,024");
-    print_changes("N 64, L 1,024", "family", &families);
+    print_reconfigurations("N 64, L 1,024", "family", &families);
     let mut sizes = by_size();
     let quick = |column: &Column| column.program != Program::Second;
     print_times("all families", "N, L", &mut sizes, quick);
@@ -96,22 +96,26 @@ fn print_times(which: &str, named: &str, rows: &mut [Row], shown: fn(&Column) ->
 fn print_stack(which: &str) {
     println!("\n{which}: stack in bytes");
     print_header("call", ["least", "most"].into_iter());
-    for call in CALLS {
+    for call in MEASURED {
         let Taken { least, most, .. } = call.stack_taken(&mut Random::seeded(SEED), DEMANDS);
         print_numbers(call.name, [least, most].into_iter());
     }
 }
 
 /// The reconfigurations of what was planned.
-fn print_changes(which: &str, named: &str, rows: &[Row]) {
+fn print_reconfigurations(which: &str, named: &str, rows: &[Row]) {
     println!("\n{which}: reconfigurations, and a bound that no schedule stays below");
-    print_header(named, CHANGES.iter().map(|&(title, _)| title));
+    print_header(named, RECONFIGURATIONS.iter().map(|&(title, _)| title));
     for (name, works) in rows {
         let counted = |count: Count| {
             let counts = works.iter().map(|work| count(work) as f64);
             Some(Figures::of(counts.collect()))
         };
-        print_row(name, CHANGES.iter().map(|&(_, count)| counted(count)), 0);
+        print_row(
+            name,
+            RECONFIGURATIONS.iter().map(|&(_, count)| counted(count)),
+            0,
+        );
     }
 }
 

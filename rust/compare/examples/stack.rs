@@ -1,6 +1,6 @@
 //! How much stack each entry takes at N 64 and L 1,024, and placing by itself.
 
-use compare::calls::{CALLS, NO_CALL, NODES, SLOTS, Taken};
+use compare::measured::{MEASURED, NO_CALL, NODES, SLOTS, Taken};
 use second::inputs::Random;
 
 const SEED: u64 = 1;
@@ -11,7 +11,7 @@ const DEMANDS: usize = 5;
 fn main() {
     println!("N {NODES}, L {SLOTS}, seed {SEED}, {DEMANDS} demands of each family");
     println!("bytes of stack that a call took: the least and the most, and the family of the most");
-    for call in CALLS.into_iter().chain([NO_CALL]) {
+    for call in MEASURED.into_iter().chain([NO_CALL]) {
         let Taken {
             least,
             most,

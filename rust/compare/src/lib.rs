@@ -1,14 +1,25 @@
 //! What the comparisons share: lent tables whose surroundings are watched, answers that both
 //! programs give in their own words, stars for the inner layers, the parties to a run, the player of
-//! a scenario, the proved programs, and calls whose stack is measured.
+//! a scenario, the proved programs, calls whose stack is measured, and signatures in three
+//! languages.
 
-pub mod calls;
+pub mod measured;
 pub mod program;
 pub mod run;
 pub mod scenario;
+pub mod signatures;
+
+use std::path::Path;
 
 use second::inputs::{FAMILIES, Random};
 use second::matrix::Matrix;
+use second::plan::Report;
+
+/// The folder of the repository.
+pub fn repository() -> &'static Path {
+    let here = Path::new(env!("CARGO_MANIFEST_DIR"));
+    here.ancestors().nth(2).expect("rust/ lies in it")
+}
 
 /// A table lent from the middle of a longer one, so that a write outside it shows.
 #[derive(Clone, Debug, PartialEq, Eq)]
@@ -54,6 +65,29 @@ pub fn by_library<T>(answer: Result<T, gyodaebeun::Refusal>) -> Answer {
     answer.map_or_else(|refusal| (refusal.number(), refusal.place()), |_| (0, 0))
 }
 
+/// What a plan or a frame says: its answer and its report, zeros where it is refused.
+pub type Said = (Answer, Report);
+
+/// Of a call in C that returned this number and stored this report.
+pub fn said_in_c(number: u32, report: [u32; 4]) -> Said {
+    let [place, kept, refused, reconfigurations] = report;
+    let report = Report {
+        kept,
+        refused,
+        reconfigurations,
+    };
+    ((number, place), report)
+}
+
+pub fn said_in_rust(said: Result<gyodaebeun::Report, gyodaebeun::Refusal>) -> Said {
+    let report = said.map_or(Report::default(), |report| Report {
+        kept: report.kept,
+        refused: report.refused,
+        reconfigurations: report.reconfigurations,
+    });
+    (by_library(said), report)
+}
+
 /// A demand, and the capacity of each line, in tables with extra cells out of every range.
 #[derive(Clone, Debug)]
 pub struct Star {
@@ -86,7 +120,7 @@ impl Star {
     }
 
     /// The capacities as the second program takes them.
-    pub fn limits(&self) -> Vec<i64> {
+    pub fn capacities(&self) -> Vec<i64> {
         wide(&self.capacity[..2 * self.n])
     }
 }
@@ -126,13 +160,13 @@ pub fn wide(table: &[u32]) -> Vec<i64> {
     table.iter().map(|&v| i64::from(v)).collect()
 }
 
-/// What no matrix below `bound` can exceed whose line sums are at most `limit`, whichever lines are
-/// marked: the limits of the rows without a mark and of the columns with one, and the bounds where
-/// a row with a mark meets a column without.
-pub fn cut(bound: &Matrix, limit: &[i64], marks: &[u8]) -> i64 {
+/// What no matrix below `bound` can exceed whose line sums are at most `ceiling`, whichever lines
+/// are marked: the ceilings of the rows without a mark and of the columns with one, and the bounds
+/// where a row with a mark meets a column without.
+pub fn cut(bound: &Matrix, ceiling: &[i64], marks: &[u8]) -> i64 {
     let n = bound.nodes();
     let marked = |line: usize| marks[line] != 0;
     let lines = bound.lines().filter(|&line| marked(line) == (line >= n));
     let pairs = bound.pairs().filter(|&(i, j)| marked(i) && !marked(n + j));
-    lines.map(|line| limit[line]).sum::<i64>() + pairs.map(|pair| bound.at(pair)).sum::<i64>()
+    lines.map(|line| ceiling[line]).sum::<i64>() + pairs.map(|pair| bound.at(pair)).sum::<i64>()
 }

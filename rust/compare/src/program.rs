@@ -1,9 +1,11 @@
 //! The proved programs, run on an input.
 
 use std::io::Write;
-use std::path::{Path, PathBuf};
+use std::path::PathBuf;
 use std::process::{Command, Stdio};
 use std::{env, thread};
+
+use crate::repository;
 
 pub struct Program {
     name: &'static str,
@@ -61,9 +63,7 @@ impl Program {
     }
 
     fn built_here(&self) -> PathBuf {
-        let repository = Path::new(env!("CARGO_MANIFEST_DIR")).ancestors().nth(2);
-        let folder = repository.expect("rust/ lies in it").join("target/bin");
-        let program = folder.join(self.name);
+        let program = repository().join("target/bin").join(self.name);
         assert!(program.is_file(), "build it with `rt check {}`", self.name);
         program
     }

@@ -1,14 +1,14 @@
 //! A run as three parties hold it: the second program, the library called in C and the library
 //! called in Rust. Every call is made to all three, and then they hold the same.
 
-use gyodaebeun::{Plan, Run, raw};
+use gyodaebeun::{Run, raw};
 use second::limits::LEAST;
 use second::matrix::{Matrix, full_capacity};
-use second::plan::{Totals, Written};
+use second::plan::{Report, Written};
 use second::run::{self, Books, Record};
 use second::{judge, least, schedule};
 
-use crate::{Answer, Lent, by_library, by_second};
+use crate::{Answer, Lent, Said, by_library, by_second, said_in_c, said_in_rust};
 
 /// One call of a run.
 #[derive(Clone, Debug)]
@@ -84,17 +84,17 @@ impl State {
     /// Takes over the plan that the library wrote for an accepted frame, once it is judged; the
     /// books go on with what its schedule carries.
     #[track_caller]
-    fn carry(&mut self, library: &mut Loan, totals: Totals) {
+    fn carry(&mut self, library: &mut Loan, report: Report) {
         let Record { slots, rule, .. } = self.record;
         let demand = Matrix::read(self.record.nodes as usize, &self.books.waiting);
         let bytes = demand.nodes() * slots as usize;
         self.take_over(library, bytes);
-        let judged = judge::plan(&demand, slots as usize, rule, &self.written, totals);
+        let judged = judge::plan(&demand, slots as usize, rule, &self.written, report);
         assert_eq!(judged, Ok(()), "{self:?}");
         if rule == LEAST {
             let capacity = full_capacity(demand.nodes(), slots as usize);
             let most = demand.total() - least::refused(&demand, &capacity);
-            assert_eq!(i64::from(totals.kept), most, "{self:?}");
+            assert_eq!(i64::from(report.kept), most, "{self:?}");
         }
         let carried = schedule::counts(demand.nodes(), &self.written.schedule[..bytes]);
         run::send(&mut self.record, &mut self.books, &carried);
@@ -114,14 +114,10 @@ impl State {
     }
 }
 
-/// What a call answers and, if it is a frame, reports; zeros for any other call.
-type Said = (Answer, Totals);
-
-const NOTHING: Totals = Totals {
-    kept: 0,
-    refused: 0,
-    reconfigurations: 0,
-};
+/// What a call says that is no frame.
+fn unreported(answer: Answer) -> Said {
+    (answer, Report::default())
+}
 
 /// The same record and tables, lent to the library with watched cells around each.
 #[derive(Clone, Debug, PartialEq, Eq)]
@@ -163,32 +159,26 @@ impl Loan {
                 slots,
                 limit,
                 rule,
-            } => (self.fresh_in_c(nodes, slots, limit, rule), NOTHING),
-            Call::Post(ref arrivals) => (self.post_in_c(arrivals), NOTHING),
+            } => unreported(self.fresh_in_c(nodes, slots, limit, rule)),
+            Call::Post(ref arrivals) => unreported(self.post_in_c(arrivals)),
             Call::Frame => self.frame_in_c(),
         }
     }
 
     fn fresh_in_c(&mut self, nodes: u32, slots: u32, limit: u32, rule: u32) -> Answer {
         let mut place = u32::MAX;
-        let number = unsafe {
-            raw::gyodaebeun_fresh(
-                self.record.cells().as_mut_ptr(),
-                nodes,
-                slots,
-                limit,
-                rule,
-                self.waiting.cells().as_mut_ptr(),
-                self.waiting.cells().len(),
-                self.posted.cells().as_mut_ptr(),
-                self.posted.cells().len(),
-                self.sent.cells().as_mut_ptr(),
-                self.sent.cells().len(),
-                self.dropped.cells().as_mut_ptr(),
-                self.dropped.cells().len(),
-                &mut place,
-            )
-        };
+        let number = raw::fresh(
+            &mut self.record.cells()[0],
+            nodes,
+            slots,
+            limit,
+            rule,
+            self.waiting.cells(),
+            self.posted.cells(),
+            self.sent.cells(),
+            self.dropped.cells(),
+            &mut place,
+        );
         (number, place)
     }
 
@@ -196,55 +186,33 @@ impl Loan {
         let before = Lent::new(arrivals, 0);
         let mut arrivals = before.clone();
         let mut place = u32::MAX;
-        let number = unsafe {
-            raw::gyodaebeun_post(
-                self.record.cells().as_mut_ptr(),
-                arrivals.cells().as_ptr(),
-                arrivals.cells().len(),
-                self.waiting.cells().as_mut_ptr(),
-                self.waiting.cells().len(),
-                self.posted.cells().as_mut_ptr(),
-                self.posted.cells().len(),
-                self.sent.cells().as_ptr(),
-                self.sent.cells().len(),
-                self.dropped.cells().as_mut_ptr(),
-                self.dropped.cells().len(),
-                &mut place,
-            )
-        };
+        let number = raw::post(
+            &mut self.record.cells()[0],
+            arrivals.cells(),
+            self.waiting.cells(),
+            self.posted.cells(),
+            self.sent.cells(),
+            self.dropped.cells(),
+            &mut place,
+        );
         assert_eq!(arrivals, before, "the arrivals were written to");
         (number, place)
     }
 
     fn frame_in_c(&mut self) -> Said {
         let mut report = [u32::MAX; 4];
-        let number = unsafe {
-            raw::gyodaebeun_frame(
-                self.record.cells().as_mut_ptr(),
-                self.waiting.cells().as_mut_ptr(),
-                self.waiting.cells().len(),
-                self.posted.cells().as_ptr(),
-                self.posted.cells().len(),
-                self.sent.cells().as_mut_ptr(),
-                self.sent.cells().len(),
-                self.dropped.cells().as_ptr(),
-                self.dropped.cells().len(),
-                self.kept.cells().as_mut_ptr(),
-                self.kept.cells().len(),
-                self.withdrawn.cells().as_mut_ptr(),
-                self.withdrawn.cells().len(),
-                self.schedule.cells().as_mut_ptr(),
-                self.schedule.cells().len(),
-                &mut report,
-            )
-        };
-        let [place, kept, refused, reconfigurations] = report;
-        let totals = Totals {
-            kept,
-            refused,
-            reconfigurations,
-        };
-        ((number, place), totals)
+        let number = raw::frame(
+            &mut self.record.cells()[0],
+            self.waiting.cells(),
+            self.posted.cells(),
+            self.sent.cells(),
+            self.dropped.cells(),
+            self.kept.cells(),
+            self.withdrawn.cells(),
+            self.schedule.cells(),
+            &mut report,
+        );
+        said_in_c(number, report)
     }
 
     fn in_rust(&mut self, call: &Call) -> Said {
@@ -263,13 +231,12 @@ impl Loan {
                 rule,
             } => {
                 let answer = run.fresh(nodes, slots, limit, rule, &mut books);
-                (by_library(answer), NOTHING)
+                unreported(by_library(answer))
             }
-            Call::Post(ref arrivals) => (by_library(run.post(arrivals, &mut books)), NOTHING),
+            Call::Post(ref arrivals) => unreported(by_library(run.post(arrivals, &mut books))),
             Call::Frame => {
                 let (kept, withdrawn) = (self.kept.cells(), self.withdrawn.cells());
-                let frame = run.frame(&mut books, kept, withdrawn, self.schedule.cells());
-                (by_library(frame), frame.map_or(NOTHING, reported))
+                said_in_rust(run.frame(&mut books, kept, withdrawn, self.schedule.cells()))
             }
         }
     }
@@ -283,14 +250,6 @@ fn as_lent(record: &Record) -> Run {
         rule: record.rule,
         posts: record.posts,
         frames: record.frames,
-    }
-}
-
-fn reported(plan: Plan) -> Totals {
-    Totals {
-        kept: plan.kept,
-        refused: plan.refused,
-        reconfigurations: plan.reconfigurations,
     }
 }
 
@@ -384,15 +343,15 @@ impl Parties {
     #[track_caller]
     pub fn call(&mut self, call: &Call) -> Answer {
         let before = self.state.clone();
-        let (answer, totals) = self.in_c.in_c(call);
+        let (answer, report) = self.in_c.in_c(call);
         let again = self.in_rust.in_rust(call);
-        assert_eq!(again, (answer, totals), "{call:?} on {before:?}");
+        assert_eq!(again, (answer, report), "{call:?} on {before:?}");
         let expected = self.state.follow(call);
         assert_eq!(answer, expected, "{call:?} on {before:?}");
         if answer == (0, 0) {
-            self.accepted(call, totals);
+            self.accepted(call, report);
         } else {
-            assert_eq!(totals, NOTHING, "{call:?} on {before:?}");
+            assert_eq!(report, Report::default(), "{call:?} on {before:?}");
             assert_eq!(self.state, before, "{call:?}");
         }
         let held = Loan::of(&self.state);
@@ -402,9 +361,9 @@ impl Parties {
     }
 
     #[track_caller]
-    fn accepted(&mut self, call: &Call, totals: Totals) {
+    fn accepted(&mut self, call: &Call, report: Report) {
         if let Call::Frame = call {
-            self.state.carry(&mut self.in_c, totals);
+            self.state.carry(&mut self.in_c, report);
         }
         self.ledger.enter(call, &self.state);
         let agrees = self.ledger.agrees(&self.state);

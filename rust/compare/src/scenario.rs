@@ -55,15 +55,7 @@ impl Player {
         let before = Lent::new(file, CANARY);
         let mut lent = before.clone();
         let mut report = [u32::MAX; 2];
-        let number = unsafe {
-            raw::gyodaebeun_play_scenario(
-                lent.cells().as_ptr(),
-                lent.cells().len(),
-                self.text.cells().as_mut_ptr(),
-                self.text.cells().len(),
-                &mut report,
-            )
-        };
+        let number = raw::play_scenario(lent.cells(), self.text.cells(), &mut report);
         assert_eq!(lent, before, "the file was written to");
         let [place, length] = report;
         let text = self.taken(length as usize);

@@ -11,7 +11,7 @@ fn compared(random: &mut Random, star: &Star) -> Matrix {
     let n = star.n;
     let before = Lent::new(&random.words(n * n + 3), 7);
     let mut expected = before.clone();
-    let kept = fair::kept(&star.asked(), &star.limits());
+    let kept = fair::kept(&star.asked(), &star.capacities());
     kept.write(expected.cells());
     let mut found = before;
     lab::fair_cut(n, &star.capacity, &star.demand, found.cells());

@@ -6,45 +6,45 @@ use second::flow;
 use second::inputs::Random;
 use second::matrix::Matrix;
 
-/// The largest matrix found, once it is found right. The limits have extra cells of their own.
+/// The largest matrix found, once it is found right. The ceilings have extra cells of their own.
 #[track_caller]
-fn compared(random: &mut Random, n: usize, bound: &[u32], limit: &[u32]) -> Matrix {
+fn compared(random: &mut Random, n: usize, bound: &[u32], ceiling: &[u32]) -> Matrix {
     let before = Lent::new(&random.words(n * n + 3), 7);
     let marks_before = Lent::new(&random.bytes(2 * n + 3), 7);
-    let room_before = Lent::new(limit, 7);
+    let headroom_before = Lent::new(ceiling, 7);
     let (mut a, mut marks) = (before.clone(), marks_before.clone());
-    let mut room = room_before.clone();
-    lab::largest(n, bound, room.cells(), a.cells(), marks.cells());
-    assert!(a.changed_only(n * n, &before), "{bound:?} {limit:?}");
-    let room_kept = room.changed_only(2 * n, &room_before);
-    assert!(room_kept, "{bound:?} {limit:?}");
+    let mut headroom = headroom_before.clone();
+    lab::largest(n, bound, headroom.cells(), a.cells(), marks.cells());
+    assert!(a.changed_only(n * n, &before), "{bound:?} {ceiling:?}");
+    let headroom_kept = headroom.changed_only(2 * n, &headroom_before);
+    assert!(headroom_kept, "{bound:?} {ceiling:?}");
     let marks_kept = marks.changed_only(2 * n, &marks_before);
-    assert!(marks_kept, "{bound:?} {limit:?}");
+    assert!(marks_kept, "{bound:?} {ceiling:?}");
 
     let a = Matrix::read(n, a.cells());
-    let (most, limits) = (Matrix::read(n, bound), wide(&limit[..2 * n]));
-    assert!(a.is_below(&most), "{bound:?} {limit:?}");
-    assert!(a.is_admissible(&limits), "{bound:?} {limit:?}");
-    for (line, &left) in wide(&room.cells()[..2 * n]).iter().enumerate() {
+    let (most, ceilings) = (Matrix::read(n, bound), wide(&ceiling[..2 * n]));
+    assert!(a.is_below(&most), "{bound:?} {ceiling:?}");
+    assert!(a.is_admissible(&ceilings), "{bound:?} {ceiling:?}");
+    for (line, &left) in wide(&headroom.cells()[..2 * n]).iter().enumerate() {
         let whole = a.line_sum(line) + left;
-        assert_eq!(whole, limits[line], "{bound:?} {limit:?}");
+        assert_eq!(whole, ceilings[line], "{bound:?} {ceiling:?}");
     }
-    let closed = cut(&most, &limits, marks.cells());
-    assert_eq!(a.total(), closed, "{bound:?} {limit:?}");
-    let expected = flow::largest(&most, &limits).total();
-    assert_eq!(a.total(), expected, "{bound:?} {limit:?}");
+    let closed = cut(&most, &ceilings, marks.cells());
+    assert_eq!(a.total(), closed, "{bound:?} {ceiling:?}");
+    let expected = flow::largest(&most, &ceilings).total();
+    assert_eq!(a.total(), expected, "{bound:?} {ceiling:?}");
     a
 }
 
-/// Limits of one kind for all lines, or of any kind for each, and two extra cells.
-fn random_limits(random: &mut Random, star: &Star) -> Vec<u32> {
+/// Ceilings of one kind for all lines, or of any kind for each, and two extra cells.
+fn random_ceilings(random: &mut Random, star: &Star) -> Vec<u32> {
     let bound = star.asked();
     let kind = random.below(7);
-    let mut limits = Vec::new();
+    let mut ceilings = Vec::new();
     for line in bound.lines() {
         let sum = bound.line_sum(line) as u32;
         let bits = random.below(32);
-        limits.push(match if kind == 6 { random.below(6) } else { kind } {
+        ceilings.push(match if kind == 6 { random.below(6) } else { kind } {
             0 => random.up_to(star.slots),
             1 => random.up_to(sum),
             2 => sum,
@@ -53,18 +53,18 @@ fn random_limits(random: &mut Random, star: &Star) -> Vec<u32> {
             _ => u32::MAX,
         });
     }
-    limits.extend(random.words(2));
-    limits
+    ceilings.extend(random.words(2));
+    ceilings
 }
 
 #[test]
-fn random_bounds_and_limits() {
+fn random_bounds_and_ceilings() {
     let mut random = Random::announced();
     let stars = stars(&mut random, 600);
     let mut less = 0;
     for star in &stars {
-        let limit = random_limits(&mut random, star);
-        let a = compared(&mut random, star.n, &star.demand, &limit);
+        let ceiling = random_ceilings(&mut random, star);
+        let a = compared(&mut random, star.n, &star.demand, &ceiling);
         less += usize::from(a != star.asked());
     }
     let count = stars.len();
@@ -76,8 +76,8 @@ fn random_bounds_and_limits() {
 fn the_largest_stars() {
     let mut random = Random::announced();
     for star in largest_stars(&mut random) {
-        let limit = random_limits(&mut random, &star);
-        compared(&mut random, 64, &star.demand, &limit);
+        let ceiling = random_ceilings(&mut random, &star);
+        compared(&mut random, 64, &star.demand, &ceiling);
     }
 }
 
@@ -85,18 +85,18 @@ fn the_largest_stars() {
 fn every_small_matrix() {
     let mut random = Random::announced();
     for bound in lists(4, 3) {
-        for limit in lists(4, 4) {
-            compared(&mut random, 2, &bound, &limit);
+        for ceiling in lists(4, 4) {
+            compared(&mut random, 2, &bound, &ceiling);
         }
     }
 }
 
 #[test]
-fn wide_limits_leave_the_bounds() {
+fn wide_ceilings_leave_the_bounds() {
     let mut random = Random::announced();
     for star in stars(&mut random, 10) {
-        let limit = vec![u32::MAX; 2 * star.n];
-        let a = compared(&mut random, star.n, &star.demand, &limit);
+        let ceiling = vec![u32::MAX; 2 * star.n];
+        let a = compared(&mut random, star.n, &star.demand, &ceiling);
         assert_eq!(a, star.asked());
     }
 }
@@ -107,9 +107,9 @@ fn the_ends_of_the_range() {
     for n in [0, 1, 2, 63, 64] {
         let bound = vec![65_535; n * n];
         let most = 65_535 * n as u32;
-        for limit in [0, 1, 65_535, 65_536, most, u32::MAX] {
-            let a = compared(&mut random, n, &bound, &vec![limit; 2 * n]);
-            assert_eq!(a.total(), n as i64 * i64::from(limit.min(most)));
+        for ceiling in [0, 1, 65_535, 65_536, most, u32::MAX] {
+            let a = compared(&mut random, n, &bound, &vec![ceiling; 2 * n]);
+            assert_eq!(a.total(), n as i64 * i64::from(ceiling.min(most)));
         }
     }
 }

@@ -9,7 +9,7 @@ use second::matrix::Matrix;
 /// The withdrawn and the kept matrix, once they are found right.
 #[track_caller]
 fn compared(random: &mut Random, star: &Star) -> (Matrix, Matrix) {
-    let (demand, capacity) = (star.asked(), star.limits());
+    let (demand, capacity) = (star.asked(), star.capacities());
     let excess = least::excesses(&demand, &capacity);
     let refused = least::refused(&demand, &capacity);
 

@@ -8,13 +8,32 @@ use std::ptr;
 use gyodaebeun::{POST, Run, TEXT_BYTES, raw};
 use second::scenario;
 
-/// The pointer and the number of cells of a table, or NULL and 0.
-fn lent<T>(table: &mut [T], absent: bool) -> (*mut T, usize) {
-    if absent {
-        (ptr::null_mut(), 0)
-    } else {
-        (table.as_mut_ptr(), table.len())
+/// A choice of tables that are absent: the first where bit 0 is set, the second where bit 1 is, and
+/// so on.
+struct Absent(u32);
+
+impl Absent {
+    /// The pointer and the number of cells of the next table, or NULL and 0.
+    fn lend<T>(&mut self, table: &mut [T]) -> (*mut T, usize) {
+        let absent = has(self.0, 0);
+        self.0 >>= 1;
+        if absent {
+            (ptr::null_mut(), 0)
+        } else {
+            (table.as_mut_ptr(), table.len())
+        }
     }
+}
+
+/// Calls an entry in C: with what stands before its tables, the tables of `$tables` that it takes,
+/// those of the choice absent, and what stands behind them.
+macro_rules! call {
+    ($entry:ident($($before:expr),*; $($table:ident),*; $behind:expr), $choice:expr, $tables:expr) => {{
+        let mut absent = Absent($choice);
+        $(let $table = absent.lend(&mut $tables.$table);)*
+        // Each pointer is valid for its cells, and nothing overlaps.
+        unsafe { raw::$entry($($before,)* $($table.0, $table.1,)* $behind) }
+    }};
 }
 
 /// Whether this choice of tables has the table of this number.
@@ -88,20 +107,9 @@ fn refused(tables: u32, asks: bool, call: impl Fn(u32, &mut Run, &mut Tables) ->
 #[test]
 fn slacks() {
     refused(2, true, |choice, run, tables| {
-        let (demand, demand_length) = lent(&mut tables.asked, has(choice, 0));
-        let (slacks, slacks_length) = lent(&mut tables.slacks, has(choice, 1));
-        let mut place = u32::MAX;
-        let number = unsafe {
-            raw::gyodaebeun_slacks(
-                run.nodes,
-                SLOTS,
-                demand,
-                demand_length,
-                slacks,
-                slacks_length,
-                &mut place,
-            )
-        };
+        let (nodes, mut place) = (run.nodes, u32::MAX);
+        let number =
+            call!(gyodaebeun_slacks(nodes, SLOTS; asked, slacks; &mut place), choice, tables);
         [number, place, 0, 0, 0]
     });
 }
@@ -110,29 +118,13 @@ fn slacks() {
 fn plan() {
     for rule in [0, 1] {
         refused(4, true, |choice, run, tables| {
-            let (demand, demand_length) = lent(&mut tables.asked, has(choice, 0));
-            let (kept, kept_length) = lent(&mut tables.kept, has(choice, 1));
-            let (withdrawn, withdrawn_length) = lent(&mut tables.withdrawn, has(choice, 2));
-            let (schedule, schedule_length) = lent(&mut tables.schedule, has(choice, 3));
-            let mut report = [u32::MAX; 4];
-            let number = unsafe {
-                raw::gyodaebeun_plan(
-                    run.nodes,
-                    SLOTS,
-                    rule,
-                    demand,
-                    demand_length,
-                    kept,
-                    kept_length,
-                    withdrawn,
-                    withdrawn_length,
-                    schedule,
-                    schedule_length,
-                    &mut report,
-                )
-            };
-            let [place, kept, refused, reconfigurations] = report;
-            [number, place, kept, refused, reconfigurations]
+            let (nodes, mut report) = (run.nodes, [u32::MAX; 4]);
+            let number = call!(
+                gyodaebeun_plan(nodes, SLOTS, rule; asked, kept, withdrawn, schedule; &mut report),
+                choice,
+                tables
+            );
+            reported(number, report)
         });
     }
 }
@@ -140,29 +132,12 @@ fn plan() {
 #[test]
 fn fresh() {
     refused(4, false, |choice, run, tables| {
-        let (waiting, waiting_length) = lent(&mut tables.waiting, has(choice, 0));
-        let (posted, posted_length) = lent(&mut tables.posted, has(choice, 1));
-        let (sent, sent_length) = lent(&mut tables.sent, has(choice, 2));
-        let (dropped, dropped_length) = lent(&mut tables.dropped, has(choice, 3));
-        let mut place = u32::MAX;
-        let number = unsafe {
-            raw::gyodaebeun_fresh(
-                run,
-                run.nodes,
-                SLOTS,
-                5,
-                0,
-                waiting,
-                waiting_length,
-                posted,
-                posted_length,
-                sent,
-                sent_length,
-                dropped,
-                dropped_length,
-                &mut place,
-            )
-        };
+        let (nodes, mut place) = (run.nodes, u32::MAX);
+        let number = call!(
+            gyodaebeun_fresh(run, nodes, SLOTS, 5, 0; waiting, posted, sent, dropped; &mut place),
+            choice,
+            tables
+        );
         [number, place, 0, 0, 0]
     });
 }
@@ -170,28 +145,12 @@ fn fresh() {
 #[test]
 fn post() {
     refused(5, true, |choice, run, tables| {
-        let (arrivals, arrivals_length) = lent(&mut tables.asked, has(choice, 0));
-        let (waiting, waiting_length) = lent(&mut tables.waiting, has(choice, 1));
-        let (posted, posted_length) = lent(&mut tables.posted, has(choice, 2));
-        let (sent, sent_length) = lent(&mut tables.sent, has(choice, 3));
-        let (dropped, dropped_length) = lent(&mut tables.dropped, has(choice, 4));
         let mut place = u32::MAX;
-        let number = unsafe {
-            raw::gyodaebeun_post(
-                run,
-                arrivals,
-                arrivals_length,
-                waiting,
-                waiting_length,
-                posted,
-                posted_length,
-                sent,
-                sent_length,
-                dropped,
-                dropped_length,
-                &mut place,
-            )
-        };
+        let number = call!(
+            gyodaebeun_post(run; asked, waiting, posted, sent, dropped; &mut place),
+            choice,
+            tables
+        );
         [number, place, 0, 0, 0]
     });
 }
@@ -199,66 +158,47 @@ fn post() {
 #[test]
 fn frame() {
     refused(7, false, |choice, run, tables| {
-        let (waiting, waiting_length) = lent(&mut tables.waiting, has(choice, 0));
-        let (posted, posted_length) = lent(&mut tables.posted, has(choice, 1));
-        let (sent, sent_length) = lent(&mut tables.sent, has(choice, 2));
-        let (dropped, dropped_length) = lent(&mut tables.dropped, has(choice, 3));
-        let (kept, kept_length) = lent(&mut tables.kept, has(choice, 4));
-        let (withdrawn, withdrawn_length) = lent(&mut tables.withdrawn, has(choice, 5));
-        let (schedule, schedule_length) = lent(&mut tables.schedule, has(choice, 6));
         let mut report = [u32::MAX; 4];
-        let number = unsafe {
-            raw::gyodaebeun_frame(
-                run,
-                waiting,
-                waiting_length,
-                posted,
-                posted_length,
-                sent,
-                sent_length,
-                dropped,
-                dropped_length,
-                kept,
-                kept_length,
-                withdrawn,
-                withdrawn_length,
-                schedule,
-                schedule_length,
-                &mut report,
-            )
-        };
-        let [place, kept, refused, reconfigurations] = report;
-        [number, place, kept, refused, reconfigurations]
+        let number = call!(
+            gyodaebeun_frame(
+                run; waiting, posted, sent, dropped, kept, withdrawn, schedule; &mut report
+            ),
+            choice,
+            tables
+        );
+        reported(number, report)
     });
+}
+
+/// The number of the refusal and all that is reported.
+fn reported(number: u32, [place, kept, refused, reconfigurations]: [u32; 4]) -> [u32; 5] {
+    [number, place, kept, refused, reconfigurations]
+}
+
+/// The tables of a call that writes a scenario.
+struct Writing {
+    kinds: Vec<u32>,
+    cells: Vec<u32>,
+    file: Vec<u8>,
 }
 
 /// One post, or none where the kinds are absent.
 #[test]
 fn write_scenario() {
     for (nodes, choice) in choices(3) {
-        let cells = vec![1; (nodes * nodes) as usize];
-        let before = vec![7; 28 + 2 * cells.len()];
-        let (mut kinds, mut cells, mut file) = (vec![POST], cells, before.clone());
-        let (kinds, kinds_length) = lent(&mut kinds, has(choice, 0));
-        let (cells, cells_length) = lent(&mut cells, has(choice, 1));
-        let (bytes, bytes_length) = lent(&mut file, has(choice, 2));
-        let mut report = [u32::MAX; 2];
-        let number = unsafe {
-            raw::gyodaebeun_write_scenario(
-                nodes,
-                SLOTS,
-                6,
-                1,
-                kinds,
-                kinds_length,
-                cells,
-                cells_length,
-                bytes,
-                bytes_length,
-                &mut report,
-            )
+        let pairs = (nodes * nodes) as usize;
+        let mut tables = Writing {
+            kinds: vec![POST],
+            cells: vec![1; pairs],
+            file: vec![7; 28 + 2 * pairs],
         };
-        let mut after = before;
+        let mut after = tables.file.clone();
+        let mut report = [u32::MAX; 2];
+        let number = call!(
+            gyodaebeun_write_scenario(nodes, SLOTS, 6, 1; kinds, cells, file; &mut report),
+            choice,
+            tables
+        );
         let expected = match [0, 1, 2].map(|table| has(choice, table)) {
             [false, true, _] => 4,
             [_, _, true] => 5,
@@ -270,26 +210,31 @@ fn write_scenario() {
         }
         let length = if expected == 0 { 20 } else { 0 };
         assert_eq!((number, report), (expected, [0, length]), "{choice:b}");
-        assert_eq!(file, after, "N {nodes}, choice {choice:b}");
+        assert_eq!(tables.file, after, "N {nodes}, choice {choice:b}");
     }
+}
+
+/// The tables of a call that plays one.
+struct Playing {
+    file: Vec<u8>,
+    text: Vec<u8>,
 }
 
 #[test]
 fn play_scenario() {
     for choice in 1..4 {
-        let (mut file, mut text) = (vec![0; 20], vec![7; TEXT_BYTES]);
-        let (bytes, bytes_length) = lent(&mut file, has(choice, 0));
-        let (lines, lines_length) = lent(&mut text, has(choice, 1));
-        let mut report = [u32::MAX; 2];
-        let number = unsafe {
-            raw::gyodaebeun_play_scenario(bytes, bytes_length, lines, lines_length, &mut report)
+        let mut tables = Playing {
+            file: vec![0; 20],
+            text: vec![7; TEXT_BYTES],
         };
+        let mut report = [u32::MAX; 2];
+        let number = call!(gyodaebeun_play_scenario(; file, text; &mut report), choice, tables);
         let (expected, written): (u32, &[u8]) = match has(choice, 1) {
             true => (5, b""),
             false => (0, b"refused 10 0\n"),
         };
         assert_eq!((number, report), (expected, [0, written.len() as u32]));
-        let (front, rest) = text.split_at(written.len());
+        let (front, rest) = tables.text.split_at(written.len());
         assert!(front == written && rest.iter().all(|&byte| byte == 7));
     }
 }

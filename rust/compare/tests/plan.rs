@@ -1,12 +1,14 @@
 //! The entry `plan`: the proved library and the second program, answer by answer. Of an accepted
 //! plan many are right, so it is judged by document 01.
 
-use compare::{Answer, Lent, by_library, by_second, largest_stars, lists, stars};
-use gyodaebeun::{Plan, Refusal, raw};
+use compare::{
+    Answer, Lent, Said, by_second, largest_stars, lists, said_in_c, said_in_rust, stars,
+};
+use gyodaebeun::raw;
 use second::inputs::{Random, choices};
 use second::limits::{FAIR, LEAST};
 use second::matrix::Matrix;
-use second::plan::{self, Totals, Written};
+use second::plan::{self, Report, Written};
 use second::{judge, refusal};
 
 /// What the entry is called with; `written` has the tables before the call.
@@ -73,38 +75,9 @@ impl Tables {
     }
 }
 
-/// The answer of the C entry, with the totals and the reconfigurations that it reports.
-fn by_c(input: &Input, tables: &mut Tables) -> (Answer, Totals) {
+fn by_c(input: &Input, tables: &mut Tables) -> Said {
     let mut report = [u32::MAX; 4];
-    let (kept, withdrawn) = (tables.kept.cells(), tables.withdrawn.cells());
-    let (demand, schedule) = (tables.demand.cells(), tables.schedule.cells());
-    let number = unsafe {
-        raw::gyodaebeun_plan(
-            input.nodes,
-            input.slots,
-            input.rule,
-            demand.as_mut_ptr(),
-            demand.len(),
-            kept.as_mut_ptr(),
-            kept.len(),
-            withdrawn.as_mut_ptr(),
-            withdrawn.len(),
-            schedule.as_mut_ptr(),
-            schedule.len(),
-            &mut report,
-        )
-    };
-    let [place, kept, refused, reconfigurations] = report;
-    let totals = Totals {
-        kept,
-        refused,
-        reconfigurations,
-    };
-    ((number, place), totals)
-}
-
-fn by_rust(input: &Input, tables: &mut Tables) -> Result<Plan, Refusal> {
-    gyodaebeun::plan(
+    let number = raw::plan(
         input.nodes,
         input.slots,
         input.rule,
@@ -112,13 +85,27 @@ fn by_rust(input: &Input, tables: &mut Tables) -> Result<Plan, Refusal> {
         tables.kept.cells(),
         tables.withdrawn.cells(),
         tables.schedule.cells(),
-    )
+        &mut report,
+    );
+    said_in_c(number, report)
+}
+
+fn by_rust(input: &Input, tables: &mut Tables) -> Said {
+    said_in_rust(gyodaebeun::plan(
+        input.nodes,
+        input.slots,
+        input.rule,
+        tables.demand.cells(),
+        tables.kept.cells(),
+        tables.withdrawn.cells(),
+        tables.schedule.cells(),
+    ))
 }
 
 /// The answer, on which the library's C entry, its Rust entry and the second program agree, and
 /// what an accepted plan wrote and reported, once it is judged.
 #[track_caller]
-fn compared(input: &Input) -> (Answer, Option<(Written, Totals)>) {
+fn compared(input: &Input) -> (Answer, Option<(Written, Report)>) {
     let Input { nodes, slots, .. } = *input;
     let mut written = input.written.clone();
     let planned = plan::plan(nodes, slots, input.rule, &input.demand, &mut written);
@@ -126,41 +113,29 @@ fn compared(input: &Input) -> (Answer, Option<(Written, Totals)>) {
 
     let before = Tables::lent(input);
     let mut tables = before.clone();
-    let (answer, totals) = by_c(input, &mut tables);
+    let (answer, report) = by_c(input, &mut tables);
     assert_eq!(answer, expected, "{input:?}");
     let mut again = before.clone();
-    let safe = by_rust(input, &mut again);
+    let said_again = by_rust(input, &mut again);
     assert_eq!(again, tables, "{input:?}");
-    assert_eq!(by_library(safe), answer, "{input:?}");
+    assert_eq!(said_again, (answer, report), "{input:?}");
 
-    let Ok(Plan {
-        kept,
-        refused,
-        reconfigurations,
-    }) = safe
-    else {
+    if answer != (0, 0) {
         assert_eq!(tables, before, "{input:?}");
-        let reported = (totals.kept, totals.refused, totals.reconfigurations);
-        assert_eq!(reported, (0, 0, 0), "{input:?}");
+        assert_eq!(report, Report::default(), "{input:?}");
         return (answer, None);
-    };
-    let reported = Totals {
-        kept,
-        refused,
-        reconfigurations,
-    };
-    assert_eq!(reported, totals, "{input:?}");
+    }
     let (cells, bytes) = ((nodes * nodes) as usize, (slots * nodes) as usize);
     assert!(tables.changed_only(cells, bytes, &before), "{input:?}");
     let written = tables.written();
     let demand = Matrix::read(nodes as usize, &input.demand);
-    let judged = judge::plan(&demand, slots as usize, input.rule, &written, totals);
+    let judged = judge::plan(&demand, slots as usize, input.rule, &written, report);
     assert_eq!(judged, Ok(()), "{input:?}");
-    (answer, Some((written, totals)))
+    (answer, Some((written, report)))
 }
 
 #[track_caller]
-fn accepted(input: &Input) -> (Written, Totals) {
+fn accepted(input: &Input) -> (Written, Report) {
     let (answer, plan) = compared(input);
     assert_eq!(answer, (0, 0), "{input:?}");
     plan.expect("accepted")
@@ -332,9 +307,9 @@ fn every_length_of_table() {
 #[track_caller]
 fn case(slots: u32, demand: &[u32], rule: u32, kept: &[u32], refused: u32) {
     let n = demand.len().isqrt() as u32;
-    let (written, totals) = accepted(&Input::exact(n, slots, rule, demand));
+    let (written, report) = accepted(&Input::exact(n, slots, rule, demand));
     assert_eq!(written.kept, kept);
-    assert_eq!((totals.kept, totals.refused), (kept.iter().sum(), refused));
+    assert_eq!((report.kept, report.refused), (kept.iter().sum(), refused));
 }
 
 /// Document 01, "Worked by hand".
@@ -360,15 +335,15 @@ fn worked_by_hand() {
 /// Document 01, cases k, m and o.
 #[test]
 fn worked_by_hand_further() {
-    let (_, totals) = accepted(&Input::exact(2, 2, LEAST, &[2; 4]));
-    assert_eq!(totals.refused, 4);
+    let (_, report) = accepted(&Input::exact(2, 2, LEAST, &[2; 4]));
+    assert_eq!(report.refused, 4);
     for rule in [FAIR, LEAST] {
-        let (written, totals) = accepted(&Input::exact(3, 5, rule, &[0; 9]));
+        let (written, report) = accepted(&Input::exact(3, 5, rule, &[0; 9]));
         assert_eq!(
             (written.kept, written.schedule),
             (vec![0; 9], vec![255; 15])
         );
-        assert_eq!(totals.reconfigurations, 0);
+        assert_eq!(report.reconfigurations, 0);
     }
     assert_eq!(compared(&Input::exact(0, 0, FAIR, &[])).0, (1, 0));
     let large = Input::exact(65, 4, FAIR, &[0; 65 * 65]);

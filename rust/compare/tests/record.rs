@@ -60,6 +60,11 @@ impl Parted {
         }
     }
 
+    /// Lends the record, though not all of it may be written: in Rust nobody does.
+    fn record(&mut self) -> &mut Run {
+        unsafe { &mut *self.record }
+    }
+
     fn held(&self) -> Run {
         unsafe { self.record.read() }
     }
@@ -119,72 +124,50 @@ fn refused_by(number: u32) -> (Run, Tables) {
     (run, tables)
 }
 
-fn post(run: *mut Run, tables: &mut Tables) -> u32 {
+fn post(run: &mut Run, tables: &mut Tables) -> u32 {
     let mut place = 0;
-    unsafe {
-        raw::gyodaebeun_post(
-            run,
-            tables.arrivals.as_ptr(),
-            tables.arrivals.len(),
-            tables.waiting.as_mut_ptr(),
-            tables.waiting.len(),
-            tables.posted.as_mut_ptr(),
-            tables.posted.len(),
-            tables.sent.as_ptr(),
-            tables.sent.len(),
-            tables.dropped.as_mut_ptr(),
-            tables.dropped.len(),
-            &mut place,
-        )
-    }
+    raw::post(
+        run,
+        &tables.arrivals,
+        &mut tables.waiting,
+        &mut tables.posted,
+        &tables.sent,
+        &mut tables.dropped,
+        &mut place,
+    )
 }
 
-fn frame(run: *mut Run, tables: &mut Tables) -> u32 {
+fn frame(run: &mut Run, tables: &mut Tables) -> u32 {
     let mut report = [0; 4];
-    unsafe {
-        raw::gyodaebeun_frame(
-            run,
-            tables.waiting.as_mut_ptr(),
-            tables.waiting.len(),
-            tables.posted.as_ptr(),
-            tables.posted.len(),
-            tables.sent.as_mut_ptr(),
-            tables.sent.len(),
-            tables.dropped.as_ptr(),
-            tables.dropped.len(),
-            tables.kept.as_mut_ptr(),
-            tables.kept.len(),
-            tables.withdrawn.as_mut_ptr(),
-            tables.withdrawn.len(),
-            tables.schedule.as_mut_ptr(),
-            tables.schedule.len(),
-            &mut report,
-        )
-    }
+    raw::frame(
+        run,
+        &mut tables.waiting,
+        &tables.posted,
+        &mut tables.sent,
+        &tables.dropped,
+        &mut tables.kept,
+        &mut tables.withdrawn,
+        &mut tables.schedule,
+        &mut report,
+    )
 }
 
 /// The values go in the order N, L, B, rule.
-fn fresh(run: *mut Run, values: [u32; 4], tables: &mut Tables) -> u32 {
+fn fresh(run: &mut Run, values: [u32; 4], tables: &mut Tables) -> u32 {
     let [nodes, slots, limit, rule] = values;
     let mut place = 0;
-    unsafe {
-        raw::gyodaebeun_fresh(
-            run,
-            nodes,
-            slots,
-            limit,
-            rule,
-            tables.waiting.as_mut_ptr(),
-            tables.waiting.len(),
-            tables.posted.as_mut_ptr(),
-            tables.posted.len(),
-            tables.sent.as_mut_ptr(),
-            tables.sent.len(),
-            tables.dropped.as_mut_ptr(),
-            tables.dropped.len(),
-            &mut place,
-        )
-    }
+    raw::fresh(
+        run,
+        nodes,
+        slots,
+        limit,
+        rule,
+        &mut tables.waiting,
+        &mut tables.posted,
+        &mut tables.sent,
+        &mut tables.dropped,
+        &mut place,
+    )
 }
 
 /// The whole record.
@@ -198,15 +181,15 @@ fn a_post_stores_its_count() {
         Shut::From(offset_of!(Run, frames)),
     ] {
         let (run, mut tables) = refused_by(0);
-        let lent = Parted::new(run, shut);
-        assert_eq!(post(lent.record, &mut tables), 0, "{shut:?}");
+        let mut lent = Parted::new(run, shut);
+        assert_eq!(post(lent.record(), &mut tables), 0, "{shut:?}");
         let posts = run.posts + 1;
         assert_eq!(lent.held(), Run { posts, ..run }, "{shut:?}");
     }
     for &number in POST {
         let (run, mut tables) = refused_by(number);
-        let lent = Parted::new(run, WHOLE);
-        assert_eq!(post(lent.record, &mut tables), number);
+        let mut lent = Parted::new(run, WHOLE);
+        assert_eq!(post(lent.record(), &mut tables), number);
         assert_eq!(lent.held(), run, "{number}");
     }
 }
@@ -215,14 +198,14 @@ fn a_post_stores_its_count() {
 #[test]
 fn a_frame_stores_its_count() {
     let (run, mut tables) = refused_by(0);
-    let lent = Parted::new(run, Shut::Before(offset_of!(Run, frames)));
-    assert_eq!(frame(lent.record, &mut tables), 0);
+    let mut lent = Parted::new(run, Shut::Before(offset_of!(Run, frames)));
+    assert_eq!(frame(lent.record(), &mut tables), 0);
     let frames = run.frames + 1;
     assert_eq!(lent.held(), Run { frames, ..run });
     for &number in FRAME {
         let (run, mut tables) = refused_by(number);
-        let lent = Parted::new(run, WHOLE);
-        assert_eq!(frame(lent.record, &mut tables), number);
+        let mut lent = Parted::new(run, WHOLE);
+        assert_eq!(frame(lent.record(), &mut tables), number);
         assert_eq!(lent.held(), run, "{number}");
     }
 }
@@ -255,8 +238,8 @@ fn a_fresh_start_stores_all_or_nothing() {
         } else {
             (WHOLE, run)
         };
-        let lent = Parted::new(run, shut);
-        assert_eq!(fresh(lent.record, values, &mut tables), number);
+        let mut lent = Parted::new(run, shut);
+        assert_eq!(fresh(lent.record(), values, &mut tables), number);
         assert_eq!(lent.held(), held, "{number}");
     }
 }

@@ -55,21 +55,16 @@ fn by_c(input: &Input, file: &mut Lent<u8>) -> (Answer, usize) {
     let cells = Lent::new(&input.cells, u32::MAX);
     let (mut lent_kinds, mut lent_cells) = (kinds.clone(), cells.clone());
     let mut report = [u32::MAX; 2];
-    let number = unsafe {
-        raw::gyodaebeun_write_scenario(
-            input.nodes,
-            input.slots,
-            input.limit,
-            input.rule,
-            lent_kinds.cells().as_ptr(),
-            lent_kinds.cells().len(),
-            lent_cells.cells().as_ptr(),
-            lent_cells.cells().len(),
-            file.cells().as_mut_ptr(),
-            file.cells().len(),
-            &mut report,
-        )
-    };
+    let number = raw::write_scenario(
+        input.nodes,
+        input.slots,
+        input.limit,
+        input.rule,
+        lent_kinds.cells(),
+        lent_cells.cells(),
+        file.cells(),
+        &mut report,
+    );
     assert!(lent_kinds == kinds && lent_cells == cells, "{input:?}");
     let [place, length] = report;
     ((number, place), length as usize)
@@ -132,6 +127,10 @@ fn accepted(player: &mut Player, input: &Input) -> Vec<u8> {
     bytes
 }
 
+/// The faults of a call in the order of their checks, numbered by their refusals; too many entries
+/// by 0.
+const ORDER: [u32; 9] = [0, 1, 2, 3, 7, 10, 4, 5, 6];
+
 /// Good tables, often longer than needed.
 fn random_input(random: &mut Random) -> Input {
     let n = random.pick(&[1, 1, 2, 3, 5]);
@@ -154,7 +153,7 @@ fn random_input(random: &mut Random) -> Input {
 fn damage(random: &mut Random, input: &mut Input) {
     let any = random.word() as u32;
     let Input { kinds, cells, .. } = input;
-    match random.pick(&[1, 2, 3, 7, 10, 4, 5, 6]) {
+    match random.pick(&ORDER[1..]) {
         1 => input.nodes = random.pick(&[0, 65, 257, u32::MAX, any]),
         2 => input.slots = random.pick(&[0, 1_025, 65_537, any]),
         3 => input.rule = random.pick(&[2, 256, any]),
@@ -193,12 +192,11 @@ fn random_inputs() {
     }
     println!("answers by number: {given:?}");
     assert!(given[0] > 500, "too few are accepted");
-    let refusals = [1, 2, 3, 7, 10, 4, 5, 6];
-    assert!(refusals.iter().all(|&number: &usize| given[number] > 20));
+    let mut refusals = ORDER[1..].iter();
+    assert!(refusals.all(|&number| given[number as usize] > 20));
 }
 
-/// Every single refusal, every pair of them and every larger choice: the first in the order. The
-/// faults are numbered by their refusals, too many entries by 0.
+/// Every single refusal, every pair of them and every larger choice: the first in the order.
 #[test]
 fn faults_together() {
     let good = [
@@ -207,7 +205,7 @@ fn faults_together() {
     ];
     for good in good {
         let pairs = (good.nodes * good.nodes) as usize;
-        for faults in choices(&[0, 1, 2, 3, 7, 10, 4, 5, 6]) {
+        for faults in choices(&ORDER) {
             let mut input = good.clone();
             for fault in &faults {
                 match fault {

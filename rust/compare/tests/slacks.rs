@@ -5,6 +5,7 @@ use compare::{Answer, Lent, by_library, by_second};
 use gyodaebeun::{Refusal, raw};
 use second::inputs::{Random, choices, family};
 use second::plan;
+use second::refusal::SLACKS;
 
 /// What the entry is called with; `slacks` is the table before the call.
 #[derive(Clone, Debug)]
@@ -42,17 +43,7 @@ fn compared(input: &Input) -> (Answer, Vec<i32>) {
 
     let mut slacks = before.clone();
     let mut place = u32::MAX;
-    let number = unsafe {
-        raw::gyodaebeun_slacks(
-            nodes,
-            slots,
-            demand.cells().as_mut_ptr(),
-            demand.cells().len(),
-            slacks.cells().as_mut_ptr(),
-            slacks.cells().len(),
-            &mut place,
-        )
-    };
+    let number = raw::slacks(nodes, slots, demand.cells(), slacks.cells(), &mut place);
     assert_eq!((number, place), answer, "{input:?}");
     assert_eq!(slacks, expected, "{input:?}");
     assert_eq!(demand, asked, "the demand was written to: {input:?}");
@@ -71,9 +62,6 @@ fn accepted(input: &Input) -> Vec<i32> {
     slacks
 }
 
-/// The refusals of this entry, in the order of their checks.
-const ORDER: [u32; 5] = [1, 2, 4, 5, 6];
-
 #[test]
 fn random_inputs() {
     let mut random = Random::announced();
@@ -84,7 +72,7 @@ fn random_inputs() {
     }
     println!("answers by number: {given:?}");
     assert!(given[0] > 1_000, "too few are accepted");
-    assert!(ORDER.iter().all(|&number| given[number as usize] > 100));
+    assert!(SLACKS.iter().all(|&number| given[number as usize] > 100));
 }
 
 /// A good input, then, often, one or more faults.
@@ -108,7 +96,7 @@ fn random_input(random: &mut Random) -> Input {
 
 fn damage(random: &mut Random, input: &mut Input, n: usize) {
     let any = random.word() as u32;
-    match random.pick(&ORDER) {
+    match random.pick(SLACKS) {
         1 => input.nodes = random.pick(&[0, n as u32 + 1, 65, 257, u32::MAX, any]),
         2 => input.slots = random.pick(&[0, 1_025, 65_537, u32::MAX, any]),
         4 => input.demand.truncate(random.below(n * n)),
@@ -127,7 +115,7 @@ fn damage(random: &mut Random, input: &mut Input, n: usize) {
 #[test]
 fn faults_together() {
     for (n, slots) in [(2, 1), (3, 10), (5, 1_024), (64, 7)] {
-        for faults in choices(&ORDER) {
+        for faults in choices(SLACKS) {
             for input in with_faults(n, slots, &faults) {
                 let expected = match faults.first() {
                     None => (0, 0),

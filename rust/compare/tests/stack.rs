@@ -1,11 +1,11 @@
 //! How much stack a call may take at N 64 and L 1,024, whatever is asked.
 
-use compare::calls::{CALLS, Taken, call};
+use compare::measured::{MEASURED, Taken, measured};
 use second::inputs::Random;
 
 #[track_caller]
 fn at_most(bytes: usize, name: &str) {
-    let Taken { most, family, .. } = call(name).stack_taken(&mut Random::announced(), 3);
+    let Taken { most, family, .. } = measured(name).stack_taken(&mut Random::announced(), 3);
     assert!(most <= bytes, "{name}: {most} bytes, {family}");
 }
 
@@ -25,7 +25,7 @@ fn playing() {
 #[test]
 fn every_other_entry() {
     let plays = |name: &str| name.starts_with("play_scenario");
-    for call in CALLS.into_iter().filter(|call| !plays(call.name)) {
+    for call in MEASURED.into_iter().filter(|call| !plays(call.name)) {
         at_most(4_096, call.name);
     }
 }

@@ -5,7 +5,7 @@
 //! Tables as everywhere: pair (i,j) is cell i×N+j, lines 0 to N−1 are the rows, line N+j is column
 //! j. A longer table than needed is accepted; its extra cells are neither read nor changed.
 
-pub mod raw;
+mod raw;
 
 /// The slots that each pair keeps under the fair rule, from its demands and the capacities of the
 /// 2N lines.
@@ -27,21 +27,21 @@ pub fn fair_cut(n: usize, capacity: &[u32], demand: &[u32], kept: &mut [u32]) {
     }
 }
 
-/// Of all matrices that are at most `bound` at each cell and whose line sums are at most the limits
-/// in `room`, one with the greatest total, in `a`, and in `marks` a byte for each line that proves
-/// it so. Each limit gives way to what its line may still take.
-pub fn largest(n: usize, bound: &[u32], room: &mut [u32], a: &mut [u32], marks: &mut [u8]) {
+/// Of all matrices that are at most `bound` at each cell and whose line sums are at most the
+/// ceilings in `headroom`, one with the greatest total, in `a`, and in `marks` a byte for each line
+/// that proves it so. Each ceiling gives way to what its line may still take.
+pub fn largest(n: usize, bound: &[u32], headroom: &mut [u32], a: &mut [u32], marks: &mut [u8]) {
     ask_demands(n, bound);
     ask_cells(n, a);
-    ask_lines(n, room);
+    ask_lines(n, headroom);
     ask_lines(n, marks);
     unsafe {
         raw::lab_largest(
             n,
             bound.as_ptr(),
             bound.len(),
-            room.as_mut_ptr(),
-            room.len(),
+            headroom.as_mut_ptr(),
+            headroom.len(),
             a.as_mut_ptr(),
             a.len(),
             marks.as_mut_ptr(),
@@ -115,6 +115,17 @@ pub fn place(n: usize, slots: usize, kept: &mut [u32], schedule: &mut [u8]) -> u
     ask_cells(n, kept);
     ask_frame(n, slots, schedule);
     ask_admissible(n, slots, kept);
+    unsafe { place_untested(n, slots, kept, schedule) }
+}
+
+/// [`place`] alone, of which the stack can be measured.
+///
+/// # Safety
+///
+/// All that [`place`] tests must hold: up to 64 nodes and 1,024 slots, tables that are long enough,
+/// and no line of `kept` above L.
+#[inline]
+pub unsafe fn place_untested(n: usize, slots: usize, kept: &mut [u32], schedule: &mut [u8]) -> u32 {
     unsafe {
         raw::lab_place(
             n,
@@ -179,7 +190,7 @@ fn ask_admissible(n: usize, slots: usize, kept: &[u32]) {
 mod tests {
     use std::panic::{AssertUnwindSafe, catch_unwind};
 
-    /// What the layers are called with; the limits of `largest` are the capacities.
+    /// What the layers are called with; the ceilings of `largest` are the capacities.
     struct Tables {
         n: usize,
         slots: usize,
@@ -240,12 +251,12 @@ mod tests {
         assert_eq!(t.withdrawn, [2, 0, 0, 0]);
         keep(&mut t);
         assert_eq!(t.kept, [1, 3, 3, 0]);
-        let changes = super::place(t.n, t.slots, &mut t.kept, &mut t.schedule);
+        let reconfigurations = super::place(t.n, t.slots, &mut t.kept, &mut t.schedule);
         assert_eq!(t.kept, [1, 3, 3, 0]);
         let mut slots: Vec<&[u8]> = t.schedule.chunks(2).collect();
         slots.sort_unstable();
         assert_eq!(slots, [[0, 255], [1, 0], [1, 0], [1, 0]]);
-        assert_eq!(changes, 1);
+        assert_eq!(reconfigurations, 1);
         fair_cut(&mut t);
         assert_eq!(t.kept, [2, 2, 2, 0]);
         largest(&mut t);

@@ -3,8 +3,8 @@
 unsafe extern "C" {
     pub fn lab_fair_cut(
         n: usize,
-        capacity: *const u32,
-        capacity_length: usize,
+        cap: *const u32,
+        cap_length: usize,
         demand: *const u32,
         demand_length: usize,
         kept: *mut u32,
@@ -25,8 +25,8 @@ unsafe extern "C" {
 
     pub fn lab_withdraw(
         n: usize,
-        capacity: *const u32,
-        capacity_length: usize,
+        cap: *const u32,
+        cap_length: usize,
         demand: *const u32,
         demand_length: usize,
         withdrawn: *mut u32,
@@ -37,8 +37,8 @@ unsafe extern "C" {
 
     pub fn lab_keep(
         n: usize,
-        capacity: *const u32,
-        capacity_length: usize,
+        cap: *const u32,
+        cap_length: usize,
         demand: *const u32,
         demand_length: usize,
         withdrawn: *const u32,

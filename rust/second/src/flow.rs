@@ -4,38 +4,38 @@ use std::collections::VecDeque;
 
 use crate::matrix::Matrix;
 
-/// A largest matrix below `bound` whose line sums stay within `capacity`: one vertex per line, a
+/// A largest matrix below `bound` whose line sums stay within `ceiling`: one vertex per line, a
 /// start that feeds the rows and an end that takes from the columns.
-pub fn largest(bound: &Matrix, capacity: &[i64]) -> Matrix {
+pub fn largest(bound: &Matrix, ceiling: &[i64]) -> Matrix {
     let n = bound.nodes();
     let (start, end) = (2 * n, 2 * n + 1);
-    let mut room = vec![vec![0; 2 * n + 2]; 2 * n + 2];
+    let mut headroom = vec![vec![0; 2 * n + 2]; 2 * n + 2];
     for i in 0..n {
-        room[start][i] = capacity[i];
-        room[n + i][end] = capacity[n + i];
+        headroom[start][i] = ceiling[i];
+        headroom[n + i][end] = ceiling[n + i];
     }
     for (i, j) in bound.pairs() {
-        room[i][n + j] = bound.at((i, j));
+        headroom[i][n + j] = bound.at((i, j));
     }
-    push_all(&mut room, start, end);
+    push_all(&mut headroom, start, end);
     let mut largest = Matrix::zero(n);
     for (i, j) in bound.pairs() {
-        largest.put((i, j), room[n + j][i]);
+        largest.put((i, j), headroom[n + j][i]);
     }
     largest
 }
 
-/// Sends the greatest flow from `start` to `end`; `room` is what each arc can still carry, and
+/// Sends the greatest flow from `start` to `end`; `headroom` is what each arc can still carry, and
 /// gains backwards what it loses forwards.
-fn push_all(room: &mut [Vec<i64>], start: usize, end: usize) {
-    let count = room.len();
+fn push_all(headroom: &mut [Vec<i64>], start: usize, end: usize) {
+    let count = headroom.len();
     let mut height = vec![0; count];
     let mut stored = vec![0; count];
     let mut active = VecDeque::new();
     height[start] = count;
-    stored[start] = room[start].iter().sum();
+    stored[start] = headroom[start].iter().sum();
     for v in 0..count {
-        if push(room, &mut stored, start, v) {
+        if push(headroom, &mut stored, start, v) {
             active.push_back(v);
         }
     }
@@ -44,7 +44,7 @@ fn push_all(room: &mut [Vec<i64>], start: usize, end: usize) {
             for v in 0..count {
                 let was_empty = stored[v] == 0;
                 if height[u] == height[v] + 1
-                    && push(room, &mut stored, u, v)
+                    && push(headroom, &mut stored, u, v)
                     && was_empty
                     && v != start
                     && v != end
@@ -53,18 +53,18 @@ fn push_all(room: &mut [Vec<i64>], start: usize, end: usize) {
                 }
             }
             if stored[u] > 0 {
-                let open = (0..count).filter(|&v| room[u][v] > 0);
+                let open = (0..count).filter(|&v| headroom[u][v] > 0);
                 height[u] = 1 + open.map(|v| height[v]).min().expect("the way back is open");
             }
         }
     }
 }
 
-/// Moves what is stored at u to v as far as there is room; whether anything moved.
-fn push(room: &mut [Vec<i64>], stored: &mut [i64], u: usize, v: usize) -> bool {
-    let moved = stored[u].min(room[u][v]);
-    room[u][v] -= moved;
-    room[v][u] += moved;
+/// Moves what is stored at u to v as far as there is headroom; whether anything moved.
+fn push(headroom: &mut [Vec<i64>], stored: &mut [i64], u: usize, v: usize) -> bool {
+    let moved = stored[u].min(headroom[u][v]);
+    headroom[u][v] -= moved;
+    headroom[v][u] += moved;
     stored[u] -= moved;
     stored[v] += moved;
     moved > 0

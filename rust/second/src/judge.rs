@@ -3,18 +3,18 @@
 //! scenario.
 
 use crate::matrix::{self, Matrix};
-use crate::plan::{Totals, Written};
+use crate::plan::{Report, Written};
 use crate::scenario::{Played, Scenario};
 use crate::scenario_text::{self, Line};
 use crate::{fair, least, limits, schedule};
 
-/// Says the first thing wrong with the written tables and the totals reported with them.
+/// Says the first thing wrong with the written tables and the report that came with them.
 pub fn plan(
     demand: &Matrix,
     slots: usize,
     rule: u32,
     written: &Written,
-    totals: Totals,
+    report: Report,
 ) -> Result<(), &'static str> {
     let n = demand.nodes();
     let capacity = matrix::full_capacity(n, slots);
@@ -38,11 +38,11 @@ pub fn plan(
     require(schedule::is_conflict_free(n, bytes), "a conflict in a slot")?;
     require(schedule::counts(n, bytes) == kept, "not the kept slots")?;
     let refused = demand.total() - kept.total();
-    require(i64::from(totals.kept) == kept.total(), "wrong kept total")?;
-    require(i64::from(totals.refused) == refused, "wrong refused total")?;
-    let changes = schedule::reconfigurations(n, bytes);
-    let counted = totals.reconfigurations as usize == changes;
-    require(counted, "wrong reconfigurations")
+    require(i64::from(report.kept) == kept.total(), "wrong kept total")?;
+    require(i64::from(report.refused) == refused, "wrong refused total")?;
+    let counted = schedule::reconfigurations(n, bytes);
+    let right = report.reconfigurations as usize == counted;
+    require(right, "wrong reconfigurations")
 }
 
 /// Says the first thing wrong with the text printed of a scenario.

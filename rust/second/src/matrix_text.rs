@@ -68,9 +68,9 @@ fn number(word: &[u8]) -> Option<u32> {
 /// kept slots by destination."
 fn print(demand: &Matrix, slots: u32, rule: u32, plan: &Plan) -> String {
     let n = demand.nodes();
-    let totals = plan.totals(demand);
+    let report = plan.report(demand);
     let mut text = format!("nodes {n} slots {slots} rule {rule}\n");
-    writeln!(text, "kept {} refused {}", totals.kept, totals.refused).expect("text grows");
+    writeln!(text, "kept {} refused {}", report.kept, report.refused).expect("text grows");
     for source in 0..n {
         let row = plan.kept.line(source);
         let cells: Vec<String> = row.map(|pair| plan.kept.at(pair).to_string()).collect();

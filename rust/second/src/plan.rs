@@ -48,9 +48,9 @@ impl Written {
     }
 }
 
-/// What a plan or a frame reports.
-#[derive(Clone, Copy, Debug, PartialEq, Eq)]
-pub struct Totals {
+/// What a plan or a frame reports beside its tables.
+#[derive(Clone, Copy, Debug, Default, PartialEq, Eq)]
+pub struct Report {
     pub kept: u32,
     pub refused: u32,
     pub reconfigurations: u32,
@@ -62,7 +62,7 @@ pub fn plan(
     rule: u32,
     demand: &[u32],
     written: &mut Written,
-) -> Result<Totals, Refusal> {
+) -> Result<Report, Refusal> {
     let call = Call {
         values: Record::outside(nodes, slots, rule),
         asked: demand,
@@ -73,7 +73,7 @@ pub fn plan(
     let demand = Matrix::read(nodes as usize, demand);
     let plan = Plan::new(&demand, slots as usize, rule);
     written.write(&plan);
-    Ok(plan.totals(&demand))
+    Ok(plan.report(&demand))
 }
 
 /// A plan for a frame of L slots.
@@ -108,9 +108,9 @@ impl Plan {
 
     /// "The kept total, the refused total (D's total minus the kept total) and the
     /// reconfigurations."
-    pub fn totals(&self, demand: &Matrix) -> Totals {
+    pub fn report(&self, demand: &Matrix) -> Report {
         let kept = self.kept.total();
-        Totals {
+        Report {
             kept: kept as u32,
             refused: (demand.total() - kept) as u32,
             reconfigurations: schedule::reconfigurations(demand.nodes(), &self.schedule) as u32,

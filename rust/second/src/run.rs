@@ -2,7 +2,7 @@
 
 use crate::limits;
 use crate::matrix::Matrix;
-use crate::plan::{Plan, Totals, Written};
+use crate::plan::{Plan, Report, Written};
 use crate::refusal::{self, Call, Holds, Refusal};
 
 /// "N, L, B, the rule, and the counts of accepted posts and frames."
@@ -132,13 +132,13 @@ pub fn frame(
     record: &mut Record,
     books: &mut Books,
     written: &mut Written,
-) -> Result<Totals, Refusal> {
+) -> Result<Report, Refusal> {
     check_frame(record, books, written)?;
     let demand = Matrix::read(record.nodes as usize, &books.waiting);
     let plan = Plan::new(&demand, record.slots as usize, record.rule);
     written.write(&plan);
     send(record, books, &plan.kept);
-    Ok(plan.totals(&demand))
+    Ok(plan.report(&demand))
 }
 
 /// The refusal of a frame, if it gets one.

@@ -46,7 +46,7 @@ static int heard(const uint8_t *schedule, int destination)
     return count;
 }
 
-static void report(const char *what, const struct frame *frame)
+static void print_report(const char *what, const struct frame *frame)
 {
     const uint8_t *schedule = frame->schedule;
     printf("%s: kept %" PRIu32 " refused %" PRIu32, what, frame->report[1], frame->report[2]);
@@ -92,7 +92,7 @@ static void plan_once(struct frame *frame)
     static const uint32_t demand[PAIRS] = {2, 2, 1, 2, 0, 3, 1, 3, 0};
     uint32_t number = plan(NODES, demand, frame);
     expect_accepted(number, frame->report[0]);
-    report("plan", frame);
+    print_report("plan", frame);
     print_rows(frame->kept);
 }
 
@@ -136,7 +136,7 @@ static void play(struct frame *frame)
     for (int event = 0; event < 3; event++) {
         post(&run, posts[event], &books);
         send_frame(&run, &books, frame);
-        report("frame", frame);
+        print_report("frame", frame);
         print_rows(books.waiting);
     }
     printf("%" PRIu32 " posts and %" PRIu32 " frames: ", run.posts, run.frames);

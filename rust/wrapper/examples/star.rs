@@ -1,7 +1,7 @@
 //! Three nodes, frames of four slots: one plan, then a run of three posts and three frames. The
 //! program `star.c` prints the same.
 
-use gyodaebeun::{Books, Plan, Refusal, Run, plan};
+use gyodaebeun::{Books, Refusal, Report, Run, plan};
 
 const NODES: usize = 3;
 const PAIRS: usize = NODES * NODES;
@@ -42,8 +42,8 @@ fn plan_once() -> Result<(), Refusal> {
         schedule,
     } = &mut frame;
     let (nodes, slots) = (NODES as u32, SLOTS as u32);
-    let planned = plan(nodes, slots, LEAST, &demand, kept, withdrawn, schedule)?;
-    report("plan", &planned, &frame);
+    let report = plan(nodes, slots, LEAST, &demand, kept, withdrawn, schedule)?;
+    print_report("plan", &report, &frame);
     print_rows(&frame.kept);
     Ok(())
 }
@@ -70,8 +70,8 @@ fn run() -> Result<(), Refusal> {
             withdrawn,
             schedule,
         } = &mut frame;
-        let sent = run.frame(&mut books, kept, withdrawn, schedule)?;
-        report("frame", &sent, &frame);
+        let report = run.frame(&mut books, kept, withdrawn, schedule)?;
+        print_report("frame", &report, &frame);
         print_rows(books.waiting);
     }
     println!(
@@ -86,12 +86,12 @@ fn run() -> Result<(), Refusal> {
     Ok(())
 }
 
-fn plan_for_nobody() -> Result<Plan, Refusal> {
+fn plan_for_nobody() -> Result<Report, Refusal> {
     plan(0, 4, LEAST, &[], &mut [], &mut [], &mut [])
 }
 
-fn report(what: &str, plan: &Plan, frame: &Frame) {
-    let Plan { kept, refused, .. } = plan;
+fn print_report(what: &str, report: &Report, frame: &Frame) {
+    let Report { kept, refused, .. } = report;
     let heard = [0, 1, 2].map(|destination| frame.heard(destination));
     println!("{what}: kept {kept} refused {refused}, slots heard {heard:?}");
 }

@@ -12,8 +12,8 @@
 //! ```
 //! let demand = [11, 1, 0, 0];
 //! let (mut kept, mut withdrawn, mut schedule) = ([0; 4], [0; 4], [0; 20]);
-//! let plan = gyodaebeun::plan(2, 10, 1, &demand, &mut kept, &mut withdrawn, &mut schedule)?;
-//! assert_eq!((plan.kept, plan.refused), (10, 2));
+//! let report = gyodaebeun::plan(2, 10, 1, &demand, &mut kept, &mut withdrawn, &mut schedule)?;
+//! assert_eq!((report.kept, report.refused), (10, 2));
 //! assert_eq!(kept, [9, 1, 0, 0]);
 //! assert_eq!(withdrawn, [1, 0, 0, 0]);
 //! let idle = schedule.iter().filter(|&&source| source == 255);
@@ -37,8 +37,8 @@
 //! run.fresh(1, 4, 6, 1, &mut books)?;
 //! for arrivals in [[10], [3]] {
 //!     run.post(&arrivals, &mut books)?;
-//!     let frame = run.frame(&mut books, &mut kept, &mut withdrawn, &mut schedule)?;
-//!     assert_eq!(frame.kept, 4);
+//!     let report = run.frame(&mut books, &mut kept, &mut withdrawn, &mut schedule)?;
+//!     assert_eq!(report.kept, 4);
 //! }
 //! assert_eq!((books.posted[0], books.sent[0]), (13, 8));
 //! assert_eq!((books.dropped[0], books.waiting[0]), (4, 1));
@@ -65,35 +65,21 @@ pub use refusal::Refusal;
 pub use run::{Books, Run};
 pub use scenario::{FRAME, POST, TEXT_BYTES, play_scenario, write_scenario};
 
-// Where the library is called, here, in `run` and in `scenario`, each pointer comes with the length
-// of the slice that it was taken from, and nothing that is written overlaps anything: slices,
-// record, place and report are borrowed exclusively, but for slices that are only read.
-
 /// The slack of each line, L minus the line's sum, into the first 2N cells of `slacks`: the rows,
 /// then the columns. A line overflows where its slack is negative.
 ///
-/// `demand` holds N×N cells. Refused, in this order, by [`Refusal::Nodes`], [`Refusal::Slots`],
+/// `demand` holds N×N cells. Refused by [`Refusal::Nodes`], [`Refusal::Slots`],
 /// [`Refusal::DemandShort`], [`Refusal::TableShort`] and [`Refusal::DemandAbove`]; then nothing is
 /// written.
 pub fn slacks(nodes: u32, slots: u32, demand: &[u32], slacks: &mut [i32]) -> Result<(), Refusal> {
     let mut place = 0;
-    let number = unsafe {
-        raw::gyodaebeun_slacks(
-            nodes,
-            slots,
-            demand.as_ptr(),
-            demand.len(),
-            slacks.as_mut_ptr(),
-            slacks.len(),
-            &mut place,
-        )
-    };
+    let number = raw::slacks(nodes, slots, demand, slacks, &mut place);
     Refusal::given(number, place)
 }
 
 /// What a plan or a frame reports beside its tables.
 #[derive(Clone, Copy, Debug, PartialEq, Eq)]
-pub struct Plan {
+pub struct Report {
     /// The slots that all pairs keep.
     pub kept: u32,
     /// The demand of all pairs minus what they keep.
@@ -103,11 +89,11 @@ pub struct Plan {
     pub reconfigurations: u32,
 }
 
-impl Plan {
+impl Report {
     /// The answer of a call that returned this number and stored this report.
-    fn given(number: u32, report: [u32; 4]) -> Result<Plan, Refusal> {
+    fn given(number: u32, report: [u32; 4]) -> Result<Report, Refusal> {
         let [place, kept, refused, reconfigurations] = report;
-        Refusal::given(number, place).map(|()| Plan {
+        Refusal::given(number, place).map(|()| Report {
             kept,
             refused,
             reconfigurations,
@@ -138,9 +124,9 @@ impl Plan {
 /// and 2 are refused. Where several plans are right, in which slots a pair sends or in what is
 /// withdrawn, the library chooses one.
 ///
-/// `demand` holds N×N cells. Refused, in this order, by [`Refusal::Nodes`], [`Refusal::Slots`],
-/// [`Refusal::Rule`], [`Refusal::DemandShort`], [`Refusal::TableShort`] and
-/// [`Refusal::DemandAbove`]; then nothing is written.
+/// `demand` holds N×N cells. Refused by [`Refusal::Nodes`], [`Refusal::Slots`], [`Refusal::Rule`],
+/// [`Refusal::DemandShort`], [`Refusal::TableShort`] and [`Refusal::DemandAbove`]; then nothing is
+/// written.
 pub fn plan(
     nodes: u32,
     slots: u32,
@@ -149,23 +135,17 @@ pub fn plan(
     kept: &mut [u32],
     withdrawn: &mut [u32],
     schedule: &mut [u8],
-) -> Result<Plan, Refusal> {
+) -> Result<Report, Refusal> {
     let mut report = [0; 4];
-    let number = unsafe {
-        raw::gyodaebeun_plan(
-            nodes,
-            slots,
-            rule,
-            demand.as_ptr(),
-            demand.len(),
-            kept.as_mut_ptr(),
-            kept.len(),
-            withdrawn.as_mut_ptr(),
-            withdrawn.len(),
-            schedule.as_mut_ptr(),
-            schedule.len(),
-            &mut report,
-        )
-    };
-    Plan::given(number, report)
+    let number = raw::plan(
+        nodes,
+        slots,
+        rule,
+        demand,
+        kept,
+        withdrawn,
+        schedule,
+        &mut report,
+    );
+    Report::given(number, report)
 }

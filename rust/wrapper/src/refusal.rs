@@ -1,8 +1,8 @@
 use std::error::Error;
 use std::fmt;
 
-/// Why a call was refused. Where several reasons hold, the first of the order 1, 2, 3, 7, 4, 5, 8,
-/// 9, 6 is given, by their numbers; [`write_scenario`](crate::write_scenario) says where 10 stands.
+/// Why a call was refused. Where several reasons hold, the first in the order of the checks is
+/// given; `README.md` of the repository has that order, under "What is refused".
 #[derive(Clone, Copy, Debug, PartialEq, Eq)]
 pub enum Refusal {
     /// 1: N is not 1 to 64.

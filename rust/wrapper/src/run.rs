@@ -1,4 +1,4 @@
-use crate::{Plan, Refusal, raw};
+use crate::{Refusal, Report, raw};
 
 /// The record of a run. [`Run::fresh`] fills it; [`Run::post`] and [`Run::frame`] check the values
 /// they find in it and use them. A caller may store it, with the four tables of [`Books`], and go
@@ -45,8 +45,8 @@ impl Run {
     /// first N×N cells of the four tables. What the record and the tables held before does not
     /// matter.
     ///
-    /// Refused, in this order, by [`Refusal::Nodes`], [`Refusal::Slots`], [`Refusal::Rule`],
-    /// [`Refusal::QueueLimit`] and [`Refusal::TableShort`]; then neither the record nor a table is
+    /// Refused by [`Refusal::Nodes`], [`Refusal::Slots`], [`Refusal::Rule`],
+    /// [`Refusal::TableShort`] and [`Refusal::QueueLimit`]; then neither the record nor a table is
     /// changed.
     pub fn fresh(
         &mut self,
@@ -57,24 +57,18 @@ impl Run {
         books: &mut Books<'_>,
     ) -> Result<(), Refusal> {
         let mut place = 0;
-        let number = unsafe {
-            raw::gyodaebeun_fresh(
-                self,
-                nodes,
-                slots,
-                limit,
-                rule,
-                books.waiting.as_mut_ptr(),
-                books.waiting.len(),
-                books.posted.as_mut_ptr(),
-                books.posted.len(),
-                books.sent.as_mut_ptr(),
-                books.sent.len(),
-                books.dropped.as_mut_ptr(),
-                books.dropped.len(),
-                &mut place,
-            )
-        };
+        let number = raw::fresh(
+            self,
+            nodes,
+            slots,
+            limit,
+            rule,
+            books.waiting,
+            books.posted,
+            books.sent,
+            books.dropped,
+            &mut place,
+        );
         Refusal::given(number, place)
     }
 
@@ -82,28 +76,21 @@ impl Run {
     /// `dropped`, the rest to `waiting`; `posts` rises by 1, and nothing else in the record
     /// changes. `sent` is only read.
     ///
-    /// Refused, in this order, by [`Refusal::Nodes`], [`Refusal::Slots`], [`Refusal::Rule`] and
+    /// Refused by [`Refusal::Nodes`], [`Refusal::Slots`], [`Refusal::Rule`] and
     /// [`Refusal::QueueLimit`] for what the record holds, [`Refusal::DemandShort`],
-    /// [`Refusal::TableShort`], [`Refusal::BooksDisagree`], [`Refusal::CallsSpent`] after 1,000,000
-    /// posts, and [`Refusal::DemandAbove`]; then neither the record nor a table is changed.
+    /// [`Refusal::TableShort`], [`Refusal::DemandAbove`], [`Refusal::BooksDisagree`], and
+    /// [`Refusal::CallsSpent`] after 1,000,000 posts; then neither the record nor a table is changed.
     pub fn post(&mut self, arrivals: &[u32], books: &mut Books<'_>) -> Result<(), Refusal> {
         let mut place = 0;
-        let number = unsafe {
-            raw::gyodaebeun_post(
-                self,
-                arrivals.as_ptr(),
-                arrivals.len(),
-                books.waiting.as_mut_ptr(),
-                books.waiting.len(),
-                books.posted.as_mut_ptr(),
-                books.posted.len(),
-                books.sent.as_ptr(),
-                books.sent.len(),
-                books.dropped.as_mut_ptr(),
-                books.dropped.len(),
-                &mut place,
-            )
-        };
+        let number = raw::post(
+            self,
+            arrivals,
+            books.waiting,
+            books.posted,
+            books.sent,
+            books.dropped,
+            &mut place,
+        );
         Refusal::given(number, place)
     }
 
@@ -112,7 +99,7 @@ impl Run {
     /// `sent`; `frames` rises by 1, and nothing else in the record changes. `posted` and `dropped`
     /// are only read. A frame over empty queues is accepted.
     ///
-    /// Refused, in this order, by [`Refusal::Nodes`], [`Refusal::Slots`], [`Refusal::Rule`] and
+    /// Refused by [`Refusal::Nodes`], [`Refusal::Slots`], [`Refusal::Rule`] and
     /// [`Refusal::QueueLimit`] for what the record holds, [`Refusal::TableShort`] for any of the
     /// seven tables, [`Refusal::BooksDisagree`], and [`Refusal::CallsSpent`] after 1,000,000 frames;
     /// then neither the record nor a table is changed.
@@ -122,29 +109,20 @@ impl Run {
         kept: &mut [u32],
         withdrawn: &mut [u32],
         schedule: &mut [u8],
-    ) -> Result<Plan, Refusal> {
+    ) -> Result<Report, Refusal> {
         let mut report = [0; 4];
-        let number = unsafe {
-            raw::gyodaebeun_frame(
-                self,
-                books.waiting.as_mut_ptr(),
-                books.waiting.len(),
-                books.posted.as_ptr(),
-                books.posted.len(),
-                books.sent.as_mut_ptr(),
-                books.sent.len(),
-                books.dropped.as_ptr(),
-                books.dropped.len(),
-                kept.as_mut_ptr(),
-                kept.len(),
-                withdrawn.as_mut_ptr(),
-                withdrawn.len(),
-                schedule.as_mut_ptr(),
-                schedule.len(),
-                &mut report,
-            )
-        };
-        Plan::given(number, report)
+        let number = raw::frame(
+            self,
+            books.waiting,
+            books.posted,
+            books.sent,
+            books.dropped,
+            kept,
+            withdrawn,
+            schedule,
+            &mut report,
+        );
+        Report::given(number, report)
     }
 }
 

@@ -23,12 +23,11 @@ pub const TEXT_BYTES: usize = 516_096;
 /// 20 + 8 × entries + 2 × N×N × posts. [`play_scenario`] takes no more than 65,536 bytes; a longer
 /// file can be written all the same.
 ///
-/// Refused, in this order, by [`Refusal::BadFile`] of entry 0 for more than 4,096 entries,
-/// [`Refusal::Nodes`], [`Refusal::Slots`], [`Refusal::Rule`], [`Refusal::QueueLimit`],
-/// [`Refusal::BadFile`] of the first entry that is neither a post nor a frame,
-/// [`Refusal::DemandShort`] for fewer than N×N cells for each post, [`Refusal::TableShort`] for a
-/// `file` shorter than the length, and [`Refusal::DemandAbove`] of the first such cell, counted on
-/// from post to post; then nothing is written.
+/// Refused by [`Refusal::Nodes`], [`Refusal::Slots`], [`Refusal::Rule`], [`Refusal::DemandShort`]
+/// for fewer than N×N cells for each post, [`Refusal::TableShort`] for a `file` shorter than the
+/// length, [`Refusal::DemandAbove`] of the first such cell, counted on from post to post,
+/// [`Refusal::QueueLimit`], and [`Refusal::BadFile`] of entry 0 for more than 4,096 entries, or of
+/// the first entry that is neither a post nor a frame; then nothing is written.
 ///
 /// ```
 /// use gyodaebeun::{FRAME, POST, TEXT_BYTES, play_scenario, write_scenario};
@@ -53,21 +52,7 @@ pub fn write_scenario(
     file: &mut [u8],
 ) -> Result<usize, Refusal> {
     let mut report = [0; 2];
-    let number = unsafe {
-        raw::gyodaebeun_write_scenario(
-            nodes,
-            slots,
-            limit,
-            rule,
-            kinds.as_ptr(),
-            kinds.len(),
-            cells.as_ptr(),
-            cells.len(),
-            file.as_mut_ptr(),
-            file.len(),
-            &mut report,
-        )
-    };
+    let number = raw::write_scenario(nodes, slots, limit, rule, kinds, cells, file, &mut report);
     length(number, report)
 }
 
@@ -84,26 +69,18 @@ pub fn write_scenario(
 /// parts of one, and bytes of no matrix are not looked at.
 ///
 /// Bytes that are no scenario are not refused: the text says so. It is `bad input` for more than
-/// 65,536 bytes. Otherwise, before anything is played, it is `refused` with a number and a place,
-/// as `refused 10 0`, for the first of these reasons: 10 with place 0 for a table that is cut short
-/// or has more than 4,096 entries; 1, 2, 3 and 7 with place 0, as [`Refusal`] has them; 10 with the
-/// first entry, counted from 0, that is neither a post nor a frame, that is a frame with a place
-/// other than 0, or whose matrix does not lie wholly between the table and the end of the file.
-/// Every line ends with a line feed.
+/// 65,536 bytes. Otherwise, before anything is played, it is `refused` with the number and the place
+/// of the first check that fires, as `refused 10 0`: 1 to 3 or 7, as [`Refusal`] has them, for what
+/// the table holds; 10 with place 0 for a table that is cut short or has more than 4,096 entries; 10
+/// with the first entry, counted from 0, that is neither a post nor a frame, that is a frame with a
+/// place other than 0, or whose matrix does not lie wholly between the table and the end of the
+/// file. Every line ends with a line feed.
 ///
 /// Refused by [`Refusal::TableShort`], exactly if `text` has fewer than [`TEXT_BYTES`] bytes; then
 /// nothing is written. This call needs 220 KiB of stack.
 pub fn play_scenario(file: &[u8], text: &mut [u8]) -> Result<usize, Refusal> {
     let mut report = [0; 2];
-    let number = unsafe {
-        raw::gyodaebeun_play_scenario(
-            file.as_ptr(),
-            file.len(),
-            text.as_mut_ptr(),
-            text.len(),
-            &mut report,
-        )
-    };
+    let number = raw::play_scenario(file, text, &mut report);
     length(number, report)
 }
 

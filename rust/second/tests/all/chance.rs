@@ -106,12 +106,12 @@ fn staircases_and_chains_mislead_a_greedy_withdrawal() {
 fn greedy_withdrawal(demand: &Matrix, capacity: &[i64]) -> i64 {
     let n = demand.nodes();
     let excess = demand.lines().map(|line| demand.excess(capacity, line));
-    let mut room: Vec<i64> = excess.collect();
+    let mut headroom: Vec<i64> = excess.collect();
     let mut total = 0;
     for (i, j) in demand.pairs() {
-        let taken = demand.at((i, j)).min(room[i]).min(room[n + j]);
-        room[i] -= taken;
-        room[n + j] -= taken;
+        let taken = demand.at((i, j)).min(headroom[i]).min(headroom[n + j]);
+        headroom[i] -= taken;
+        headroom[n + j] -= taken;
         total += taken;
     }
     total
@@ -137,8 +137,8 @@ fn a_run_keeps_its_books() {
                 add(&mut arrived, &arrivals);
             } else {
                 let demand = Matrix::read(n, &books.waiting);
-                let totals = run::frame(&mut record, &mut books, &mut written).expect("accepted");
-                let judged = judge::plan(&demand, slots as usize, rule, &written, totals);
+                let report = run::frame(&mut record, &mut books, &mut written).expect("accepted");
+                let judged = judge::plan(&demand, slots as usize, rule, &written, report);
                 assert_eq!(judged, Ok(()));
                 add(&mut planned, &written.kept);
             }

@@ -2,7 +2,7 @@
 
 use second::judge;
 use second::matrix::Matrix;
-use second::plan::{self, Totals, Written};
+use second::plan::{self, Report, Written};
 
 pub struct Demand {
     pub nodes: u32,
@@ -37,12 +37,12 @@ pub fn tables(nodes: usize, slots: usize) -> Written {
 }
 
 /// The plan for a demand, found right in every respect.
-pub fn planned(demand: &Demand, slots: u32, rule: u32) -> (Written, Totals) {
+pub fn planned(demand: &Demand, slots: u32, rule: u32) -> (Written, Report) {
     let Demand { nodes, cells } = demand;
     let mut written = tables(*nodes as usize, slots as usize);
-    let totals = plan::plan(*nodes, slots, rule, cells, &mut written).expect("accepted");
+    let report = plan::plan(*nodes, slots, rule, cells, &mut written).expect("accepted");
     let demand = Matrix::read(*nodes as usize, cells);
-    let judged = judge::plan(&demand, slots as usize, rule, &written, totals);
+    let judged = judge::plan(&demand, slots as usize, rule, &written, report);
     assert_eq!(judged, Ok(()), "{demand:?}");
-    (written, totals)
+    (written, report)
 }

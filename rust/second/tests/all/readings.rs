@@ -231,8 +231,8 @@ fn one_slot_has_nothing_to_change() {
 fn a_frame_over_empty_queues_is_accepted() {
     let mut record = Record::fresh(2, 3, 6, LEAST);
     let mut written = tables(2, 3);
-    let totals = run::frame(&mut record, &mut Books::zero(4), &mut written);
-    assert_eq!(totals.map(|totals| totals.kept), Ok(0));
+    let report = run::frame(&mut record, &mut Books::zero(4), &mut written);
+    assert_eq!(report.map(|report| report.kept), Ok(0));
     assert_eq!(written.schedule, [255; 6]);
     assert_eq!(record.frames, 1);
 }

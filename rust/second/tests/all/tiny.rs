@@ -43,10 +43,10 @@ fn least_is_least(n: usize, slots: usize, most: u32) {
             nodes: n as u32,
             cells,
         };
-        let (_, totals) = planned(&asked, slots as u32, LEAST);
-        assert_eq!(i64::from(totals.refused), expected, "{demand:?}");
-        let (_, totals) = planned(&asked, slots as u32, FAIR);
-        assert!(i64::from(totals.refused) >= expected, "{demand:?}");
+        let (_, report) = planned(&asked, slots as u32, LEAST);
+        assert_eq!(i64::from(report.refused), expected, "{demand:?}");
+        let (_, report) = planned(&asked, slots as u32, FAIR);
+        assert!(i64::from(report.refused) >= expected, "{demand:?}");
     }
 }
 

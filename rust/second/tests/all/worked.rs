@@ -10,10 +10,10 @@ use second::run::{self, Books, Record};
 
 /// A demand and L under a rule, what is kept, and the refused total.
 fn case(slots: u32, demand: &str, rule: u32, kept: &str, refused: u32) -> Written {
-    let (written, totals) = planned(&rows(demand), slots, rule);
+    let (written, report) = planned(&rows(demand), slots, rule);
     assert_eq!(written.kept, rows(kept).cells);
-    assert_eq!(totals.refused, refused);
-    assert_eq!(totals.kept, rows(kept).cells.iter().sum::<u32>());
+    assert_eq!(report.refused, refused);
+    assert_eq!(report.kept, rows(kept).cells.iter().sum::<u32>());
     written
 }
 
@@ -79,8 +79,8 @@ fn j() {
 
 #[test]
 fn k() {
-    let (_, totals) = planned(&rows("2 2 / 2 2"), 2, LEAST);
-    assert_eq!(totals.refused, 4);
+    let (_, report) = planned(&rows("2 2 / 2 2"), 2, LEAST);
+    assert_eq!(report.refused, 4);
     let (demand, capacity) = (matrix("2 2 / 2 2"), full_capacity(2, 2));
     for greatest in ["1 1 / 1 1", "2 0 / 0 2", "0 2 / 2 0"] {
         let a = matrix(greatest);
@@ -109,10 +109,10 @@ fn m() {
                 nodes,
                 cells: vec![0; (nodes * nodes) as usize],
             };
-            let (written, totals) = planned(&zero, slots, rule);
+            let (written, report) = planned(&zero, slots, rule);
             assert!(written.kept.iter().all(|&v| v == 0));
             assert!(written.schedule.iter().all(|&byte| byte == 255));
-            assert_eq!(totals.reconfigurations, 0);
+            assert_eq!(report.reconfigurations, 0);
         }
     }
 }
@@ -182,9 +182,9 @@ fn p() {
     assert_eq!((record, books.clone()), before);
 
     let mut written = tables(1, 4);
-    let totals = run::frame(&mut record, &mut books, &mut written).expect("accepted");
-    assert_eq!(totals.kept, 4);
-    assert_eq!(totals.refused, 1);
+    let report = run::frame(&mut record, &mut books, &mut written).expect("accepted");
+    assert_eq!(report.kept, 4);
+    assert_eq!(report.refused, 1);
     assert_eq!(record.frames, 1);
     assert_eq!(books.waiting, [1]);
     assert_eq!(books.sent, [65_534_999_004]);
