@@ -17,8 +17,8 @@ use Rattle.arrays.specs.Arrays.{Filled}
 use Rattle.at_least.specs.AtLeast.{AtLeast}
 use Rattle.cells.specs.Cells.{paddedIn, keptIn}
 use Rattle.pairs.specs.declared.free.Free.{Free}
-use Rattle.pairs.specs.Pairs.{allowed, taken, Paired, Rooms, CanMatch, Matched, Stuck}
-use Rattle.pairs.proofs.Counts.{never-stuck, taken-all}
+use Rattle.pairs.specs.Pairs.{allowed, partners, Paired, Rooms, CanMatch, Matched, Stuck}
+use Rattle.pairs.proofs.Counts.{never-stuck, partners-all}
 use Rattle.pairs.proofs.Matches.{all-free}
 use Rattle.holds.specs.declared.turns.Turn.{Turn}
 use Rattle.holds.specs.Holds.{CanHear, Hears, Takes, Next}
@@ -148,7 +148,7 @@ module _ {n : ℕ} {table source before : List ℕ} {most : ℕ} (c : CanHear n 
   byte-source j hj lt = ⊎-elim (λ a. a .0) (λ b. absurd (omega (arith, b .0, c .table-room .nodes))) (byte-is j hj)
 
   byte-once : (j u : ℕ) → j < n → u < n → getD out j 0 < n → getD out j 0 ≡ getD out u 0 → j ≡ u
-  unfolding taken
+  unfolding partners
   byte-once j u hj hu lt e =
       by-eq j u (λ q. q)
       (λ ne.
@@ -206,7 +206,7 @@ module _ {n : ℕ} {table may source destination bytes : List ℕ} {turn : Turn}
       sources = r .standing .rooms .sources;
       outs = c .outs;
       full = r .full .all;
-      once = taken-all (r .standing .paired) (r .full);
+      once = partners-all (r .standing .paired) (r .full);
       gets = λ j hj. omega (
         arith,
         r .standing .some,

@@ -12,7 +12,7 @@ use Rattle.sums.specs.Tables.{cell}
 use Rattle.star.specs.Tables.{Square}
 use Rattle.star.specs.Lines.{lineSum}
 use Rattle.cells.specs.Cells.{paddedIn, keptIn}
-use Rattle.pairs.specs.Pairs.{taken}
+use Rattle.pairs.specs.Pairs.{partners}
 
 -- for how many slots a pair's byte stays the same: as long as it is idle, and then as long as it is due
 unfoldable pub lasting : (padded kept : ℕ) → ℕ
@@ -32,7 +32,7 @@ pub record CanHear (n : ℕ) (table source bytes : List ℕ) (most : ℕ) : Type
   pub sources : n ≤ length source
   pub outs : n ≤ length bytes
   pub full : (j : ℕ) → j < n → getD source j 0 < n
-  pub once : (i : ℕ) → i < n → taken n source i ≡ 1
+  pub once : (i : ℕ) → i < n → partners n source i ≡ 1
   pub gets : (j : ℕ) → j < n → 1 ≤ cell n (paddedIn table) (getD source j 0) j
   pub some : 1 ≤ most
 
