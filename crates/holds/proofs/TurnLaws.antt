@@ -21,7 +21,7 @@ use Rattle.pairs.specs.Pairs.{allowed, partners, Paired, Rooms, CanMatch, Match
 use Rattle.pairs.proofs.Counts.{never-stuck, partners-all}
 use Rattle.pairs.proofs.Matches.{all-free}
 use Rattle.holds.specs.declared.turns.Turn.{Turn}
-use Rattle.holds.specs.Holds.{CanHear, Hears, Takes, Next}
+use Rattle.holds.specs.Holds.{CanHear, Hears, Deducts, Next}
 use Rattle.holds.specs.Turns.{Standing, Even, Begun, CanPair, Ready, CanTake, Parted, CanTurn, Turned}
 use Rattle.holds.proofs.HearLaws.{lasting-idle, lasting-due, heard-idle, heard-due}
 use Rattle.holds.proofs.TakeLaws.{line-less}
@@ -161,7 +161,7 @@ module _ {n : ℕ} {table source before : List ℕ} {most : ℕ} (c : CanHear n 
         c .once (getD source j 0) (c .full j hj),
       )))
 
-  pub next-law : {table' : List ℕ} → Takes n table table' source h → Next n table table' out most h
+  pub next-law : {table' : List ℕ} → Deducts n table table' source h → Next n table table' out most h
   next-law {table'} k =
       let keeps : (i j : ℕ) → cell n (keptIn table') i j ≡ cell n (keptIn table) i j = λ i j. ap (λ (x : List ℕ). cell n x i j) (k .kept) in
       record {
@@ -221,4 +221,4 @@ module _ {n : ℕ} {table may source destination bytes : List ℕ} {turn : Turn}
 
       pub turn-next : {table' may'' source'' destination'' : List ℕ} {free : Free} → Parted n table source' table' may'' source'' destination'' (ready .level) h free
           → Turned n table table' may'' source'' destination'' bytes' left (record { slots = h; level = ready .level; held = ready .held + 1; free = free })
-      turn-next p = record { next = next-law turn-hear d (p .takes); standing = p .standing; few = omega (arith, c .few, r .few, d .some) }
+      turn-next p = record { next = next-law turn-hear d (p .deducts); standing = p .standing; few = omega (arith, c .few, r .few, d .some) }

@@ -43,12 +43,12 @@ pub record Hears (n : ℕ) (table source bytes : List ℕ) (most h : ℕ) : Type
   pub says : (j : ℕ) → j < n → getD bytes j 0 ≡ heardFrom (cell n (paddedIn table) (getD source j 0) j) (cell n (keptIn table) (getD source j 0) j) (getD source j 0)
 
 -- y is x with h less at the pair of each destination and its source
-pub record Taken (n : ℕ) (x y source : List ℕ) (h : ℕ) : Type 0 where
+pub record Deducted (n : ℕ) (x y source : List ℕ) (h : ℕ) : Type 0 where
   pub less : (i j : ℕ) → i < n → j < n → cell n y i j + h * hit (getD source j 0) i ≡ cell n x i j
 
 -- each pair gets so much less, and keeps what it did
-pub record Takes (n : ℕ) (table table' source : List ℕ) (h : ℕ) : Type 0 where
-  pub less : Taken n (paddedIn table) (paddedIn table') source h
+pub record Deducts (n : ℕ) (table table' source : List ℕ) (h : ℕ) : Type 0 where
+  pub less : Deducted n (paddedIn table) (paddedIn table') source h
   pub kept : keptIn table' ≡ keptIn table
 
 -- The setting that comes next: it is held for h slots, and those are taken. Nobody hears two sources, no source is heard twice, the slots
