@@ -15,7 +15,7 @@ use Rattle.growth.specs.Growth.{SpansKept, rowRoom}
 use Rattle.growth.specs.Sides.{Sides}
 use Rattle.growth.proofs.Keeping.{kept-none, kept-join, kept-spent, spent-falls}
 use Rattle.layers.specs.Layers.{Layered, Apart, Meets}
-use Rattle.walks.specs.Paths.{Left, Thinned, weight, PathLists, CanClimb, Climbed, CanCarry, Carried, CanSend, Sent}
+use Rattle.walks.specs.Paths.{LeftLayer, Thinned, weight, PathLists, CanClimb, Climbed, Passable, Bottleneck, CanSend, Sent}
 use Rattle.walks.specs.Walks.{Roomy, LeftIfNone, CanSpend, Spent, CanDrain, Drained}
 use Rattle.walks.proofs.Thinning.{left-had, left-gone, thinned-join, thinned-weight, thinned-apart}
 use Rattle.walks.proofs.Sends.{follows-passes}
@@ -24,7 +24,7 @@ use Rattle.walks.proofs.Sends.{follows-passes}
 pub left-stays : {layers : List ℕ} {k i left : ℕ} → 0 < left → LeftIfNone layers layers k i left
 left-stays some = record { none = λ z. absurd (omega arith); others = λ m j e. e }
 
-pub left-leaves : {layers layers' : List ℕ} {k i left : ℕ} → k < length layers → Left layers layers' k i → LeftIfNone layers layers' k i left
+pub left-leaves : {layers layers' : List ℕ} {k i left : ℕ} → k < length layers → LeftLayer layers layers' k i → LeftIfNone layers layers' k i left
 left-leaves fits L = record { none = λ z. left-gone fits L; others = left-had fits L }
 
 -- x is taken from the room of row i and column j
@@ -113,7 +113,7 @@ pub record Walked (n : ℕ) (bound a room offers takers rows columns a' room' of
   pub first : Layered n offers takers rows columns last → rowRoom n room' < rowRoom n room
 
 pub walk-climb : {n : ℕ} {bound a room offers takers rows columns at to : List ℕ} {e last : ℕ} → CanWalk n bound a room offers takers rows columns at to e last → CanClimb n offers takers rows columns at to e last
-walk-climb P = record { offered = P .sides .columns; taken = P .sides .rows; lists = P .lists; apart = P .apart; column = P .column; in' = P .in' }
+walk-climb P = record { offers-room = P .sides .columns; takers-room = P .sides .rows; lists = P .lists; apart = P .apart; column = P .column; in' = P .in' }
 
 module _ {n : ℕ} {bound a room offers takers rows columns rows' columns' at to at' to' : List ℕ} {e last : ℕ} {r : Bool} (P : CanWalk n bound a room offers takers rows columns at to e last) (C : Climbed n offers takers rows columns rows' columns' at' to' e last r) where
   pub walked-none : r ≡ false → Walked n bound a room offers takers rows columns a room offers takers rows' columns' last
@@ -128,8 +128,8 @@ module _ {n : ℕ} {bound a room offers takers rows columns rows' columns' at to
   }
 
   module _ (yes' : r ≡ true) (la : length at' ≡ length at) (lt : length to' ≡ length to) where
-    pub walk-carry : CanCarry n bound a room at' to' e last
-    walk-carry =
+    pub walk-passable : Passable n bound a room at' to' e last
+    walk-passable =
         let path = C .path yes' in
         record {
           below = P .sides .below;
@@ -142,7 +142,7 @@ module _ {n : ℕ} {bound a room offers takers rows columns rows' columns' at to
           tos = omega (arith, P .lists .tos, P .lists .few);
         }
 
-    module _ {x : ℕ} (K : Carried n bound a room at' to' e last x) where
+    module _ {x : ℕ} (K : Bottleneck n bound a room at' to' e last x) where
       pub walk-send : CanSend n bound a offers takers at' to' e last x
       walk-send = record {
         sides = P .sides;

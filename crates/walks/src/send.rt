@@ -4,7 +4,7 @@ use growth::sides::less;
 use growth::sides::more;
 use star::numbers::smaller;
 use star::tables::get;
-ghost use Rattle.walks.specs.Paths.{CanCarry, Carried, CanSend, Sent};
+ghost use Rattle.walks.specs.Paths.{Passable, Bottleneck, CanSend, Sent};
 
 // The most that can go the whole path: what each of its steps can take, and the room at both ends.
 pub fn bottleneck(
@@ -17,8 +17,8 @@ pub fn bottleneck(
     e: usize,
     last: usize,
 ) -> u32
-    requires { ⌜ CanCarry n (now bound) (now a) (now room) (now at) (now to) e last ⌝ }
-    ensures { λ r. ⌜ Carried n (now (bound .entry)) (now (a .entry)) (now (room .entry)) (now (at .entry)) (now (to .entry)) e last r ⌝ }
+    requires { ⌜ Passable n (now bound) (now a) (now room) (now at) (now to) e last ⌝ }
+    ensures { λ r. ⌜ Bottleneck n (now (bound .entry)) (now (a .entry)) (now (room .entry)) (now (at .entry)) (now (to .entry)) e last r ⌝ }
 {
     let mut x = room[n + e];
     let mut k = last;

@@ -6,7 +6,7 @@ use lib.ListN.{length}
 use borrow.Author.Tests.{not-true, not-false}
 use Rattle.growth.specs.Growth.{rowRoom}
 use Rattle.walks.specs.Paths.{weight}
-use Rattle.walks.proofs.WalkLaws.{walk-climb, walked-none, walk-carry, walk-send, walk-spend, walked-sent, Draining, drain-start, drain-walk, drain-step, drain-end, lists-again}
+use Rattle.walks.proofs.WalkLaws.{walk-climb, walked-none, walk-passable, walk-send, walk-spend, walked-sent, Draining, drain-start, drain-walk, drain-step, drain-end, lists-again}
 use Rattle.walks.proofs.walk.drain.Statement.{statement}
 use Rattle.walks.proofs.walk.drain.Tie as tie
 
@@ -77,7 +77,7 @@ bottleneck-requires c κs = let inv = c .before .before .before .before .before 
     let found = rw (c .before .before .before .before .before .before .before .before .before .before .before .before .before .before .before .before .before .before .before .before .before .before .set-at .ensures) at (c .before .before .before .before .before .before .before .before .before .before .before .before .before .before .before .before .before .before .before .before .before .first .ensures) in
     let can = drain-walk inv found (omega (arith, c .before .before .before .before .before .before .before .before .before .before .before .before .before .before .before .before .before .before .before .before .before .before .before .before .before .before .before .before .before .before .before .before .before .before .pre .rooms, c .before .before .before .before .before .before .before .before .before .before .before .before .before .before .before .before .before .before .before .before .before .before .before .before .loop .inv .1)) (c .before .before .before .before .before .before .before .before .before .before .before .before .before .before .before .before .before .before .before .before .if1 .left) in
     let said = c .before .before .before .before .before .before .before .before .before .before .before .before .before .climb in
-    walk-carry can (said .ensures) (not-false _ (c .before .before .before .before .if2 .left)) (said .kept .1 .1 .1 .1 .1 .0) (said .kept .1 .1 .1 .1 .1 .1 .0)
+    walk-passable can (said .ensures) (not-false _ (c .before .before .before .before .if2 .left)) (said .kept .1 .1 .1 .1 .1 .0) (said .kept .1 .1 .1 .1 .1 .1 .0)
 
 send-requires : tie.Need-send-requires Inv-loop μ-loop
 send-requires c κs = let inv = c .before .before .before .before .before .before .before .before .before .before .before .before .before .before .before .before .before .before .before .before .before .before .before .before .before .before .before .before .before .before .loop .inv .8 in
