@@ -1,6 +1,6 @@
 -- From the start to the end: a matrix of zeros whose rooms are the limits is feasible, and stays so while spans are kept; where it cannot grow the marks are
 -- closed. Only the cells needed matter. Assumes nothing.
-use Prim.Native.Nat.{ℕ, _+_, _-_, _*_, _≤_, _<_}
+use Prim.Native.Nat.{ℕ, _+_, _-_, _*_, _<_}
 use native.Mathlib.Omega.{arith}
 use mathlib.Core.Path.{_≡_, sym, _∙_, ap}
 use mathlib.Core.Bool.{Bool, true, false}

@@ -1,5 +1,4 @@
 // A matrix grows along paths from rows with room to columns with room, until there is none.
-use arrays::lists;
 use growth::sides::roomy;
 use layers::search;
 use walks::walk::drain;

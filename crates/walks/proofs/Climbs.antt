@@ -1,6 +1,6 @@
 -- A path is found node by node, from its end up. A node that leads no further leaves its layer, and on layers of which each node was reached from the
 -- layer before none does. Assumes nothing.
-use Prim.Native.Nat.{ℕ, _+_, _*_, _≤_, _<_}
+use Prim.Native.Nat.{ℕ, _+_, _≤_, _<_}
 use native.Mathlib.Omega.{arith}
 use mathlib.Core.Path.{_≡_, refl, sym, _∙_, ap}
 use mathlib.Core.Bool.{true, false, false≢true}
@@ -10,8 +10,8 @@ use lib.Seq.{getD-set-same, getD-set-other}
 use Rattle.sums.proofs.Cases.{by-eq}
 use Rattle.nodes.specs.Sets.{member, Both, First}
 use Rattle.nodes.proofs.SetLaws.{both-in, both-left, both-right}
-use Rattle.layers.specs.Layers.{Layered, Apart}
-use Rattle.walks.specs.Paths.{Path, Follows, weight, FirstInBoth, LeftLayer, Thinned, CanClimb, Climbed}
+use Rattle.layers.specs.Layers.{Layered}
+use Rattle.walks.specs.Paths.{weight, FirstInBoth, LeftLayer, Thinned, CanClimb, Climbed}
 use Rattle.walks.proofs.Thinning.{left-else, left-len, row-leaves, column-leaves, thinned-none, thinned-row, thinned-column, thinned-weight, thinned-apart}
 
 -- the first node of what two sets have in common
