@@ -23,12 +23,12 @@ pub record Certified (n : ℕ) (bound limit a marks a' marks' : List ℕ) : Type
   pub rest-marks : drop (2 * n) marks' ≡ drop (2 * n) marks
 
 -- each line's limit has given way to what the line may still take, and the cells beyond are as before
-pub record RoomLeft (n : ℕ) (limit a' room' : List ℕ) : Type 0 where
-  pub lines : (ℓ : ℕ) → ℓ < 2 * n → lineSum n a' ℓ + getD room' ℓ 0 ≡ getD limit ℓ 0
-  pub rest : drop (2 * n) room' ≡ drop (2 * n) limit
+pub record HeadroomLeft (n : ℕ) (limit a' headroom' : List ℕ) : Type 0 where
+  pub lines : (ℓ : ℕ) → ℓ < 2 * n → lineSum n a' ℓ + getD headroom' ℓ 0 ≡ getD limit ℓ 0
+  pub rest : drop (2 * n) headroom' ≡ drop (2 * n) limit
 
 -- the same on tables without further cells
-pub record Finished (n : ℕ) (bound limit a' room' marks' : List ℕ) : Type 0 where
+pub record Finished (n : ℕ) (bound limit a' headroom' marks' : List ℕ) : Type 0 where
   pub feasible : Feasible n bound limit a'
   pub closed : Closed n bound limit a' marks'
-  pub lines : (ℓ : ℕ) → ℓ < 2 * n → lineSum n a' ℓ + getD room' ℓ 0 ≡ getD limit ℓ 0
+  pub lines : (ℓ : ℕ) → ℓ < 2 * n → lineSum n a' ℓ + getD headroom' ℓ 0 ≡ getD limit ℓ 0

@@ -32,7 +32,7 @@ cut n bound limit marks =
     + (sumTo n (λ j. gate (marked marks (n + j)) (getD limit (n + j) 0))
     + sumTo n (λ i. sumTo n (λ j. gate (marked marks i) (gate (not (marked marks (n + j))) (cell n bound i j)))))
 
--- what the marks of a finished search are: a row without a mark has no room, nor has a column with one; a marked row is at its bound where
+-- what the marks of a finished search are: a row without a mark has no headroom, nor has a column with one; a marked row is at its bound where
 -- it meets a column without a mark; a row without a mark has nothing where it meets a marked column
 pub record Closed (n : ℕ) (bound limit a marks : List ℕ) : Type 0 where
   pub rows : (i : ℕ) → i < n → marked marks i ≡ false → lineSum n a i ≡ getD limit i 0

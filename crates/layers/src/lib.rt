@@ -1,5 +1,5 @@
-// The search, in layers: rows with room, the columns that one of them can give more, the rows from which one of these columns takes, and so on to a
-// column with room.
+// The search, in layers: rows with headroom, the columns that one of them can give more, the rows from which one of these columns takes, and so on to a
+// column with headroom.
 use arrays::lists;
 ghost use Prim.Native.Nat.{_+_, _*_, _<_, _≤_};
 ghost use lib.ListN.{length};

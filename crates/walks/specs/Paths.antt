@@ -79,22 +79,22 @@ pub record Climbed (n : ℕ) (offers takers rows columns rows' columns' at' to' 
 
 -- ---- what goes along one
 -- at least 1 can go along the path
-pub record Passable (n : ℕ) (bound a room at to : List ℕ) (e last : ℕ) : Type 0 where
+pub record Passable (n : ℕ) (bound a headroom at to : List ℕ) (e last : ℕ) : Type 0 where
   pub below : Below n bound a
   pub path : Path n at to e last
   pub passes : Passes n bound a at to last 1
-  pub rooms : 2 * n ≤ length room
-  pub start : 0 < getD room (getD at 0 0) 0
-  pub ending : 0 < getD room (n + e) 0
+  pub headrooms : 2 * n ≤ length headroom
+  pub start : 0 < getD headroom (getD at 0 0) 0
+  pub ending : 0 < getD headroom (n + e) 0
   pub ats : last < length at
   pub tos : last < length to
 
--- x can, and both ends have room for it
-pub record Bottleneck (n : ℕ) (bound a room at to : List ℕ) (e last x : ℕ) : Type 0 where
+-- x can, and both ends have headroom for it
+pub record Bottleneck (n : ℕ) (bound a headroom at to : List ℕ) (e last x : ℕ) : Type 0 where
   pub some : 0 < x
   pub passes : Passes n bound a at to last x
-  pub start : x ≤ getD room (getD at 0 0) 0
-  pub ending : x ≤ getD room (n + e) 0
+  pub start : x ≤ getD headroom (getD at 0 0) 0
+  pub ending : x ≤ getD headroom (n + e) 0
 
 pub record CanSend (n : ℕ) (bound a offers takers at to : List ℕ) (e last x : ℕ) : Type 0 where
   pub sides : Sides n bound a offers takers
