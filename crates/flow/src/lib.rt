@@ -1,4 +1,4 @@
-// The largest matrix below bounds whose line sums stay below limits, with the marks that prove it.
+// The largest matrix below bounds whose line sums stay below ceilings, with the marks that prove it.
 mod grow;
 
 use crate::grow::grow;
@@ -47,8 +47,8 @@ fn largest_on(n: usize, bound: &[u32], headroom: &mut [u32], a: &mut [u32], mark
     largest_within(n, bound, a, headroom, marks);
 }
 
-// Of all matrices that are at most `bound` at each cell and whose line sums are at most the limits, one with the greatest total, in `a`; and marks
-// that prove it: no matrix exceeds their cut, and this one meets it. `headroom` holds the limits, which give way to what each line may still take. What
+// Of all matrices that are at most `bound` at each cell and whose line sums are at most the ceilings, one with the greatest total, in `a`; and marks
+// that prove it: no matrix exceeds their cut, and this one meets it. `headroom` holds the ceilings, which give way to what each line may still take. What
 // the first n * n and 2n cells of `a` and `marks` held before does not matter; further cells of all three stay as they are.
 pub fn largest(n: usize, bound: &[u32], headroom: &mut [u32], a: &mut [u32], marks: &mut [u8])
     requires { ⌜ Bounded n (now bound) (now headroom) (now a) (now marks) ⌝ }

@@ -15,7 +15,7 @@ pub record Below (n : ℕ) (bound a : List ℕ) : Type 0 where
   pub cells : Square n a
   pub below : (i j : ℕ) → i < n → j < n → cell n a i j ≤ cell n bound i j
 
--- what a line has and may still take: its limit
+-- what a line has and may still take: its ceiling
 unfoldable pub span : (n : ℕ) (a headroom : List ℕ) (ℓ : ℕ) → ℕ
 span n a headroom ℓ = lineSum n a ℓ + getD headroom ℓ 0
 

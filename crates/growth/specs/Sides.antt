@@ -43,7 +43,7 @@ pub record Less (n : ℕ) (bound a a' offers' takers' : List ℕ) (i j x : ℕ) 
   pub cells : a' ≡ set a (i * n + j) (cell n a i j - x)
   pub sides : Sides n bound a' offers' takers'
 
--- the matrix has changed, the sets are right again, and each line's limit is kept
+-- the matrix has changed, the sets are right again, and each line's ceiling is kept
 pub record Grew (n : ℕ) (bound a headroom a' headroom' offers' takers' : List ℕ) : Type 0 where
   pub sides : Sides n bound a' offers' takers'
   pub kept : SpansKept n a headroom a' headroom'

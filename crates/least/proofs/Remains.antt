@@ -17,7 +17,7 @@ use Rattle.star.proofs.LineLaws.{source-lt, destination-lt, row-sum, column-sum
 use Rattle.flow.specs.Flows.{Feasible}
 use Rattle.least.specs.Least.{Withdrawn, Greatest, left, longer}
 use Rattle.least.specs.Promises.{MeetInZero}
-use Rattle.least.proofs.Withdrawals.{feasible-is-withdrawn, limit-at}
+use Rattle.least.proofs.Withdrawals.{feasible-is-withdrawn, ceiling-at}
 
 -- ---- E, for a withdrawn A
 module _ (n : ℕ) (d a : List ℕ) where
@@ -141,7 +141,7 @@ module _ {n : ℕ} {cap d a : List ℕ} (g : Greatest n cap d a) where
           (λ ne. omega (arith, column, hit-other ne, w .lines ℓ h)))
 
       fits : (cell n (left n d a) x y ≡ 0 → ⊥) → Feasible n d (tab (2 * n) (excess n cap d)) (grown n a x y hx hy)
-      fits ne = record { below = below ne; lines = λ ℓ h. rw (limit-at n cap d ℓ h) (lines ℓ h) }
+      fits ne = record { below = below ne; lines = λ ℓ h. rw (ceiling-at n cap d ℓ h) (lines ℓ h) }
 
   pub two-longer-lines-meet-in-zero : MeetInZero n cap (left n d a)
   two-longer-lines-meet-in-zero = record { zero = meet-in-zero }

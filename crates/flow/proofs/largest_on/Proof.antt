@@ -1,4 +1,4 @@
--- `flow::largest_on` meets its contract: from zeros and limits to the end. Assumes nothing.
+-- `flow::largest_on` meets its contract: from zeros and ceilings to the end. Assumes nothing.
 use Prim.Native.Nat.{_*_}
 use mathlib.Core.Path.{_∙_}
 use borrow.Author.Needs.{needs}
