@@ -122,22 +122,22 @@ module _ {n : ℕ} {cap d a : List ℕ} (g : Greatest n cap d a) where
           (λ ny. let none : hit x i * hit y j ≡ 0 = rw (hit-other ny) (omega arith) in omega (arith, grown-cell n a x y hx hy i j p q, w .below i j p q)))
           (λ nx. let none : hit x i * hit y j ≡ 0 = rw (hit-other nx) (omega arith) in omega (arith, grown-cell n a x y hx hy i j p q, w .below i j p q))
 
-      -- a line with room for one more
-      room : (ℓ : ℕ) → ℓ < 2 * n → longer n cap (left n d a) ℓ ≡ true → lineSum n a ℓ + 1 ≤ excess n cap d ℓ
-      room ℓ h l = omega (arith, excess-parts w ℓ h, longer-is n cap (left n d a) ℓ l)
+      -- a line with headroom for one more
+      headroom : (ℓ : ℕ) → ℓ < 2 * n → longer n cap (left n d a) ℓ ≡ true → lineSum n a ℓ + 1 ≤ excess n cap d ℓ
+      headroom ℓ h l = omega (arith, excess-parts w ℓ h, longer-is n cap (left n d a) ℓ l)
 
       lines : (ℓ : ℕ) → ℓ < 2 * n → lineSum n (grown n a x y hx hy) ℓ ≤ excess n cap d ℓ
       lines ℓ h =
           by-lt ℓ n
           (λ p. by-eq x ℓ
-          (λ e. omega (arith, grown-row n a x y hx hy ℓ p, hit-same e, room ℓ h (ap (longer n cap (left n d a)) (sym e) ∙ lx)))
+          (λ e. omega (arith, grown-row n a x y hx hy ℓ p, hit-same e, headroom ℓ h (ap (longer n cap (left n d a)) (sym e) ∙ lx)))
           (λ ne. omega (arith, grown-row n a x y hx hy ℓ p, hit-other ne, w .lines ℓ h)))
           (λ p.
           let j = ℓ - n in
           let at : n + j ≡ ℓ = omega arith in
           let column : lineSum n (grown n a x y hx hy) ℓ ≡ lineSum n a ℓ + hit y j = rw at at (grown-column n a x y hx hy j (omega arith)) in
           by-eq y j
-          (λ e. omega (arith, column, hit-same e, room ℓ h (ap (longer n cap (left n d a)) (sym at ∙ ap (λ x. n + x) (sym e)) ∙ ly)))
+          (λ e. omega (arith, column, hit-same e, headroom ℓ h (ap (longer n cap (left n d a)) (sym at ∙ ap (λ x. n + x) (sym e)) ∙ ly)))
           (λ ne. omega (arith, column, hit-other ne, w .lines ℓ h)))
 
       fits : (cell n (left n d a) x y ≡ 0 → ⊥) → Feasible n d (tab (2 * n) (excess n cap d)) (grown n a x y hx hy)

@@ -91,7 +91,7 @@ module _ (n : ℕ) (cap e : List ℕ) (ℓ : ℕ) (long : getD cap ℓ 0 < lineS
   pub shared-below : (t : ℕ) → shared n cap e ℓ t ≤ onLine n e ℓ t
   unfolding shared
   shared-below t =
-      let room : getD cap ℓ 0 * onLine n e ℓ t ≤ lineSum n e ℓ * onLine n e ℓ t = omega (arith, mul-le-mul-left {m = getD cap ℓ 0} {n = lineSum n e ℓ} (onLine n e ℓ t) (omega arith)) in
+      let below : getD cap ℓ 0 * onLine n e ℓ t ≤ lineSum n e ℓ * onLine n e ℓ t = omega (arith, mul-le-mul-left {m = getD cap ℓ 0} {n = lineSum n e ℓ} (onLine n e ℓ t) (omega arith)) in
       by-lt (rank n (remainder n cap e ℓ) t) (missing n cap e ℓ)
       (λ gains.
       rw (lt-ltb _ _ gains)
