@@ -6,27 +6,27 @@ ghost use Rattle.star.specs.Tables.{Square};
 ghost use Rattle.at_least.specs.AtLeast.{AtLeast};
 ghost use Rattle.at_least.specs.Halves.{CanAdd, RowAdded, RowsAdded, HalvesJoined};
 
-// Row i, node `bit` of the half, joins the sets of the columns in which its cell is at least `least`.
-fn add_row(n: usize, table: &[u32], least: u32, half: &mut [u32], i: usize, bit: usize)
+// Row i, node `bit` of the half, joins the sets of the columns in which its cell is at least `threshold`.
+fn add_row(n: usize, table: &[u32], threshold: u32, half: &mut [u32], i: usize, bit: usize)
     requires { ⌜ (Square n (now table)) × (n ≤ length (now half)) × (i < n) × (bit < 32) ⌝ }
-    ensures { λ _. ⌜ RowAdded n (now (table .entry)) least (now (half .entry)) (now (half .exit)) i bit n ⌝ }
+    ensures { λ _. ⌜ RowAdded n (now (table .entry)) threshold (now (half .entry)) (now (half .exit)) i bit n ⌝ }
 {
     let mut j = 0;
     while j < n {
-        let enough = get(n, table, i, j) >= least;
+        let enough = get(n, table, i, j) >= threshold;
         half[j] = nodes::half_with_where(half[j], bit, enough);
         j += 1;
     }
 }
 
 // The rows from `from` to before `to` join the sets of a half that was empty.
-fn add_rows(n: usize, table: &[u32], least: u32, half: &mut [u32], from: usize, to: usize)
+fn add_rows(n: usize, table: &[u32], threshold: u32, half: &mut [u32], from: usize, to: usize)
     requires { ⌜ (Square n (now table)) × (CanAdd n (now half) from to) ⌝ }
-    ensures { λ _. ⌜ RowsAdded n (now (table .entry)) least (now (half .exit)) from to ⌝ }
+    ensures { λ _. ⌜ RowsAdded n (now (table .entry)) threshold (now (half .exit)) from to ⌝ }
 {
     let mut i = from;
     while i < to {
-        add_row(n, table, least, half, i, i - from);
+        add_row(n, table, threshold, half, i, i - from);
         i += 1;
     }
 }
@@ -43,15 +43,15 @@ fn join(n: usize, low: &[u32], high: &[u32], sets: &mut [u64])
     }
 }
 
-// For each column of a table the rows whose cell is at least `least`, as a set. They are found in halves, of which the machine takes four at a time.
-pub fn rows(n: usize, table: &[u32], least: u32, sets: &mut [u64])
+// For each column of a table the rows whose cell is at least `threshold`, as a set. They are found in halves, of which the machine takes four at a time.
+pub fn rows(n: usize, table: &[u32], threshold: u32, sets: &mut [u64])
     requires { ⌜ (Square n (now table)) × (n ≤ length (now sets)) ⌝ }
-    ensures { λ _. ⌜ AtLeast n (now (table .entry)) least (now (sets .exit)) ⌝ }
+    ensures { λ _. ⌜ AtLeast n (now (table .entry)) threshold (now (sets .exit)) ⌝ }
 {
     let middle = if n < 32 { n } else { 32 };
     let mut low = [0u32; 64];
     let mut high = [0u32; 64];
-    add_rows(n, table, least, &mut low, 0, middle);
-    add_rows(n, table, least, &mut high, middle, n);
+    add_rows(n, table, threshold, &mut low, 0, middle);
+    add_rows(n, table, threshold, &mut high, middle, n);
     join(n, &low, &high, sets);
 }

@@ -11,7 +11,7 @@ use borrow.Author.Tests.{lt-ltb, le-ltb, le-leb, lt-leb}
 use Rattle.sums.proofs.Cases.{by-eq, by-lt}
 use Rattle.star.specs.Lines.{lineSum}
 use Rattle.fair.specs.Fair.{Cutting, unmodifiedSum, numerator, exceeds, smaller, taken}
-use Rattle.fair.specs.Cuts.{Least}
+use Rattle.fair.specs.Cuts.{Smallest}
 use Rattle.sums.proofs.Fractions.{fraction-trans}
 
 -- no line below k exceeds
@@ -49,7 +49,7 @@ module _ (n : ℕ) (cap : List ℕ) (s : Cutting) where
 
   -- where each line that exceeds has something unmodified, so that its fraction is one
   module _ (some : (m : ℕ) → m < 2 * n → getD cap m 0 < lineSum n (s .values) m → 0 < unmodifiedSum n s m) where
-    choice : (k : ℕ) → k ≤ 2 * n → ((taken n cap s k ≡ 2 * n) × Quiet n cap s k) ⊎ Least n cap s k (taken n cap s k)
+    choice : (k : ℕ) → k ≤ 2 * n → ((taken n cap s k ≡ 2 * n) × Quiet n cap s k) ⊎ Smallest n cap s k (taken n cap s k)
     unfolding taken
     choice zero h = inl (refl, record { under = λ m p. absurd (omega arith) })
     choice (suc k) h =
@@ -58,13 +58,13 @@ module _ (n : ℕ) (cap : List ℕ) (s : Cutting) where
         (λ q. inr (rw (first k over (q .0)) (record {
           line = omega arith;
           over = over;
-          least = λ m p o. by-eq m k (λ e. rw e (omega arith)) (λ ne. absurd (omega (arith, q .1 .under m (omega arith))));
+          smallest = λ m p o. by-eq m k (λ e. rw e (omega arith)) (λ ne. absurd (omega (arith, q .1 .under m (omega arith))));
         })))
-        (λ (b : Least n cap s k (taken n cap s k)). by-lt (numerator n cap s k * unmodifiedSum n s (taken n cap s k)) (numerator n cap s (taken n cap s k) * unmodifiedSum n s k)
+        (λ (b : Smallest n cap s k (taken n cap s k)). by-lt (numerator n cap s k * unmodifiedSum n s (taken n cap s k)) (numerator n cap s (taken n cap s k) * unmodifiedSum n s k)
         (λ less. inr (rw (better k over (omega (arith, b .line)) less) (record {
           line = omega arith;
           over = over;
-          least = λ m p o. by-eq m k (λ e. rw e (omega arith)) (λ ne. fraction-trans
+          smallest = λ m p o. by-eq m k (λ e. rw e (omega arith)) (λ ne. fraction-trans
               (numerator n cap s k)
               (unmodifiedSum n s k)
               (numerator n cap s (taken n cap s k))
@@ -73,25 +73,25 @@ module _ (n : ℕ) (cap : List ℕ) (s : Cutting) where
               (unmodifiedSum n s m)
               (some (taken n cap s k) (omega (arith, b .line)) (b .over))
               (omega arith)
-              (b .least m (omega arith) o));
+              (b .smallest m (omega arith) o));
         })))
         (λ more. inr (rw (keeps k over (omega (arith, b .line)) more) (record {
           line = omega (arith, b .line);
           over = b .over;
-          least = λ m p o. by-eq m k (λ e. rw e more) (λ ne. b .least m (omega arith) o);
+          smallest = λ m p o. by-eq m k (λ e. rw e more) (λ ne. b .smallest m (omega arith) o);
         }))))
         (choice k (omega arith)))
         (λ under. ⊎-elim
         (λ q. inl (skips k under ∙ q .0, record { under = λ m p. by-eq m k (λ e. rw e under) (λ ne. q .1 .under m (omega arith)) }))
-        (λ (b : Least n cap s k (taken n cap s k)). inr (rw (skips k under) (record {
+        (λ (b : Smallest n cap s k (taken n cap s k)). inr (rw (skips k under) (record {
           line = omega (arith, b .line);
           over = b .over;
-          least = λ m p o. by-eq m k (λ e. absurd (omega (arith, rw e at o))) (λ ne. b .least m (omega arith) o);
+          smallest = λ m p o. by-eq m k (λ e. absurd (omega (arith, rw e at o))) (λ ne. b .smallest m (omega arith) o);
         })))
         (choice k (omega arith)))
 
-    pub taken-least : taken n cap s (2 * n) < 2 * n → Least n cap s (2 * n) (taken n cap s (2 * n))
-    taken-least h = ⊎-elim (λ q. absurd (omega (arith, q .0))) (λ b. b) (choice (2 * n) (omega arith))
+    pub taken-smallest : taken n cap s (2 * n) < 2 * n → Smallest n cap s (2 * n) (taken n cap s (2 * n))
+    taken-smallest h = ⊎-elim (λ q. absurd (omega (arith, q .0))) (λ b. b) (choice (2 * n) (omega arith))
 
     pub taken-none : 2 * n ≤ taken n cap s (2 * n) → Quiet n cap s (2 * n)
-    taken-none h = ⊎-elim (λ q. q .1) (λ (b : Least n cap s (2 * n) (taken n cap s (2 * n))). absurd (omega (arith, b .line))) (choice (2 * n) (omega arith))
+    taken-none h = ⊎-elim (λ q. q .1) (λ (b : Smallest n cap s (2 * n) (taken n cap s (2 * n))). absurd (omega (arith, b .line))) (choice (2 * n) (omega arith))

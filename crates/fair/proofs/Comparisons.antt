@@ -10,7 +10,7 @@ use lib.ListN.{getD}
 use lib.Dec.{ltb}
 use borrow.Author.Tests.{lt-ltb, le-ltb, le-leb, lt-leb}
 use Rattle.fair.specs.Fair.{Cutting, numerator, exceeds, smaller, taken}
-use Rattle.fair.specs.Cuts.{Counted, Comparable, Ahead, Next}
+use Rattle.fair.specs.Cuts.{Counted, Comparable, Ahead, NextLine}
 use Rattle.fair.proofs.LineCuts.{line-split}
 use Rattle.fair.proofs.Choices.{taken-more}
 
@@ -40,16 +40,16 @@ module _ (n : ℕ) (cap a b : List ℕ) where
   product-fits h m p hm hp = mul-le-mul {n₂ = 1024} {m₂ = 4194240} (omega (arith, h .capacities .most m hm)) (omega (arith, h .most p hp))
 
   -- ---- the search
-  pub next-start : Next n cap a b 0 (2 * n)
+  pub next-start : NextLine n cap a b 0 (2 * n)
   unfolding taken
   next-start = record { is = λ s k. refl }
 
-  module _ {m p : ℕ} (x : Next n cap a b m p) where
+  module _ {m p : ℕ} (x : NextLine n cap a b m p) where
     next-more : (r : Bool) → Ahead n cap a b m p r → (s : Cutting) → Counted n s a b → cond r m p ≡ taken n cap s (m + 1)
     next-more r y s k = rw (add-one m, taken-more n cap s m, sym (x .is s k), sym (y .is s k)) refl
 
-    pub next-ahead : Ahead n cap a b m p true → Next n cap a b (m + 1) m
+    pub next-ahead : Ahead n cap a b m p true → NextLine n cap a b (m + 1) m
     next-ahead y = record { is = next-more true y }
 
-    pub next-behind : Ahead n cap a b m p false → Next n cap a b (m + 1) p
+    pub next-behind : Ahead n cap a b m p false → NextLine n cap a b (m + 1) p
     next-behind y = record { is = next-more false y }

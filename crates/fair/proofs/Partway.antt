@@ -164,10 +164,10 @@ loose-crossing n s ℓ t hl ht =
 -- ---- the whole line
 module _ (n : ℕ) (cap kept done a b : List ℕ) (ℓ : ℕ) (h : CanCutLine n cap kept done a b ℓ) where
   pub line-lt : ℓ < 2 * n
-  line-lt = h .least .line
+  line-lt = h .smallest .line
 
   pub line-uncut : getD done ℓ 0 ≡ 0
-  line-uncut = over-uncut n cap (cutting kept done) (h .sound) ℓ (h .least .line) (h .least .over)
+  line-uncut = over-uncut n cap (cutting kept done) (h .sound) ℓ (h .smallest .line) (h .smallest .over)
 
   pub b-within : (m : ℕ) → m < 2 * n → getD b m 0 ≤ getD cap m 0
   b-within m hm = omega (arith, h .counted .modified m hm, h .sound .within m hm)
@@ -180,7 +180,7 @@ module _ (n : ℕ) (cap kept done a b : List ℕ) (ℓ : ℕ) (h : CanCutLine n 
   q-is = h .counted .unmodified ℓ line-lt
 
   proper : getD cap ℓ 0 - getD b ℓ 0 < getD a ℓ 0
-  proper = rw (p-is, q-is) (over-proper n cap (cutting kept done) (h .sound) ℓ (h .least .line) (h .least .over))
+  proper = rw (p-is, q-is) (over-proper n cap (cutting kept done) (h .sound) ℓ (h .smallest .line) (h .smallest .over))
 
   module _ {v' a' b' : List ℕ} {t sum : ℕ} (P : Partway n (cutting kept done) a b ℓ (getD cap ℓ 0 - getD b ℓ 0) (getD a ℓ 0) v' a' b' t sum) where
     -- the new cells sum to at most p
@@ -250,7 +250,7 @@ module _ (n : ℕ) (cap kept done a b : List ℕ) (ℓ : ℕ) (h : CanCutLine n 
     state : cutting v' (set done ℓ 1) ≡ cutLine n cap (cutting kept done) ℓ
     unfolding cutLine
     state =
-        let e : v' ≡ cutLine n cap (cutting kept done) ℓ .values = square-ext n v' _ (P .lengths .0 ∙ h .sound .cells) (cut-sound n cap (cutting kept done) (h .sound) ℓ (h .least) .cells) same in
+        let e : v' ≡ cutLine n cap (cutting kept done) ℓ .values = square-ext n v' _ (P .lengths .0 ∙ h .sound .cells) (cut-sound n cap (cutting kept done) (h .sound) ℓ (h .smallest) .cells) same in
         ap (λ v. cutting v (set done ℓ 1)) e
 
     other-line : (m : ℕ) → m < 2 * n → (m ≡ ℓ → ⊥) → (getD a' m 0 ≡ unmodifiedSum n (cutLine n cap (cutting kept done) ℓ) m) × (getD b' m 0 ≡ modifiedSum n (cutLine n cap (cutting kept done) ℓ) m)

@@ -12,9 +12,9 @@ use Rattle.star.specs.Lines.{lineSum}
 use Rattle.star.specs.LineSums.{Summed}
 use Rattle.star.proofs.LineLaws.{line-most, demands-below}
 use Rattle.fair.specs.Fair.{taken, cutLine, step, steps, uncut, fairKept}
-use Rattle.fair.specs.Cuts.{cutting, Counted, Sound, Comparable, Next, CanCutLine, LineCut, CanCutAll, CanCutExactly}
+use Rattle.fair.specs.Cuts.{cutting, Counted, Sound, Comparable, NextLine, CanCutLine, LineCut, CanCutAll, CanCutExactly}
 use Rattle.fair.proofs.LineCuts.{line-split}
-use Rattle.fair.proofs.Steps.{steps-sound, steps-below, steps-shrink, steps-still, step-cuts, taken-is-least, uncut-a, uncut-b}
+use Rattle.fair.proofs.Steps.{steps-sound, steps-below, steps-shrink, steps-still, step-cuts, taken-is-smallest, uncut-a, uncut-b}
 
 -- ---- the steps
 pub record Stepped (n : ℕ) (cap d kept done a b : List ℕ) (k : ℕ) : Type 0 where
@@ -46,7 +46,7 @@ module _ (n : ℕ) (cap d done₀ a₀ b₀ : List ℕ) (h : CanCutAll n cap d d
       within = λ ℓ hl. omega (arith, S .counted .modified ℓ hl, stepped-sound .within ℓ hl);
     }
 
-    module _ {ℓ : ℕ} (x : Next n cap a b (2 * n) ℓ) where
+    module _ {ℓ : ℕ} (x : NextLine n cap a b (2 * n) ℓ) where
       is : ℓ ≡ taken n cap (cutting kept done) (2 * n)
       is = x .is (cutting kept done) (S .counted)
 
@@ -59,7 +59,7 @@ module _ (n : ℕ) (cap d done₀ a₀ b₀ : List ℕ) (h : CanCutAll n cap d d
           demands = demands-below n d kept (h .demands) (rw (ap (λ s. s .values) (S .state)) (steps-below n cap d k));
           counted = S .counted;
           sound = stepped-sound;
-          least = rw is (taken-is-least n cap (cutting kept done) stepped-sound (omega (arith, is)));
+          smallest = rw is (taken-is-smallest n cap (cutting kept done) stepped-sound (omega (arith, is)));
         }
 
         pub stepped-more : {kept' done' a' b' : List ℕ} → k < 2 * n → LineCut n cap kept done a b ℓ kept' done' a' b' → Stepped n cap d kept' done' a' b' (k + 1)

@@ -1,5 +1,5 @@
 -- The invariant of the steps: b ≤ L on every line, so that a line above its capacity has a > 0 and a fraction from 0 to below 1; no line that has been cut is above its capacity.
--- Cutting the line γ with the least fraction p/q keeps it. On γ the new cells sum to at most p. A line β still too long that loses the cell v has p×a ≤ (L−b)×q by the choice of γ,
+-- Cutting the line γ with the smallest fraction p/q keeps it. On γ the new cells sum to at most p. A line β still too long that loses the cell v has p×a ≤ (L−b)×q by the choice of γ,
 -- and v ≤ a: so v×p/q rounded down is at most L−b. No cell grows. Each step that cuts cuts a line more, so after 2N steps none exceeds.
 -- The laws ask nothing of demands and capacities. Assumes nothing.
 use Prim.Native.Nat.{ℕ, zero, suc, _+_, _*_, _/_, _≤_, _<_}
@@ -21,11 +21,11 @@ use Rattle.sums.proofs.Tables.{length-square, square-cell}
 use Rattle.star.specs.Lines.{sourceOn, destinationOn, crossing, lineSum, Admissible}
 use Rattle.star.proofs.LineLaws.{line-ext, line-mono}
 use Rattle.fair.specs.Fair.{Cutting, modified, modifiedSum, unmodifiedSum, numerator, taken, cutCell, cutLine, step, steps, uncut, fairKept}
-use Rattle.fair.specs.Cuts.{Sound, Least}
+use Rattle.fair.specs.Cuts.{Sound, Smallest}
 use Rattle.star.proofs.CrossingLaws.{Meet, Beside, two-lines, crossing-lt}
 use Rattle.sums.proofs.Fractions.{floor-most, floor-less, floor-none, floors-most}
 use Rattle.fair.proofs.LineCuts.{loose, looseOn, unmodified-is, modified-on, cell-split, line-split, value-on-cut, value-off-cut, own-unmodified, own-modified, crossed-unmodified, crossed-modified, beside-unmodified, beside-modified}
-use Rattle.fair.proofs.Choices.{Quiet, taken-least, taken-none}
+use Rattle.fair.proofs.Choices.{Quiet, taken-smallest, taken-none}
 
 -- a line other than the one cut with p/q: the cell v goes over from a to b as v×p/q rounded down (v is 0 where nothing does)
 pub record Passed (p q a b a' b' : ℕ) : Type 0 where
@@ -50,14 +50,14 @@ module _ (n : ℕ) (cap : List ℕ) (s : Cutting) (h : Sound n cap s) where
     over-uncut = by-lt 0 (getD (s .done) m 0) (λ k. absurd (omega (arith, h .closed m hm k))) (λ k. omega arith)
 
   -- the line that is taken, if there is one
-  pub taken-is-least : taken n cap s (2 * n) < 2 * n → Least n cap s (2 * n) (taken n cap s (2 * n))
-  taken-is-least = taken-least n cap s over-some
+  pub taken-is-smallest : taken n cap s (2 * n) < 2 * n → Smallest n cap s (2 * n) (taken n cap s (2 * n))
+  taken-is-smallest = taken-smallest n cap s over-some
 
   pub none-taken-none-over : 2 * n ≤ taken n cap s (2 * n) → Quiet n cap s (2 * n)
   none-taken-none-over = taken-none n cap s over-some
 
-  -- ---- the line with the least fraction is cut
-  module _ (ℓ : ℕ) (γ : Least n cap s (2 * n) ℓ) where
+  -- ---- the line with the smallest fraction is cut
+  module _ (ℓ : ℕ) (γ : Smallest n cap s (2 * n) ℓ) where
     at : ℓ < length (s .done)
     at = omega (arith, h .flags, γ .line)
 
@@ -121,7 +121,7 @@ module _ (n : ℕ) (cap : List ℕ) (s : Cutting) (h : Sound n cap s) where
           arith,
           x,
           h .within m hm,
-          floor-most (x .v) (unmodifiedSum n s m) (numerator n cap s ℓ) (unmodifiedSum n s ℓ) (numerator n cap s m) (omega (arith, x)) (γ .least m hm over),
+          floor-most (x .v) (unmodifiedSum n s m) (numerator n cap s ℓ) (unmodifiedSum n s ℓ) (numerator n cap s m) (omega (arith, x)) (γ .smallest m hm over),
         ))
         (λ under. omega (arith, line-shrinks m hm, line-split n (cutLine n cap s ℓ) m))
 
@@ -166,16 +166,16 @@ steps-still n cap s m (suc k) h le =
     (λ e. ap (steps n cap s) (sym e))
     (λ ne. ap (step n cap) (steps-still n cap s m k h (omega arith)) ∙ step-still n cap (steps n cap s m) h)
 
--- what holds at the start, and afterwards wherever a line with the least fraction is cut, holds after every step
+-- what holds at the start, and afterwards wherever a line with the smallest fraction is cut, holds after every step
 pub steps-keep : (n : ℕ) (cap : List ℕ) (s : Cutting) (P : Cutting → Type 0) → Sound n cap s → P s →
-    ((r : Cutting) (ℓ : ℕ) → Sound n cap r → P r → Least n cap r (2 * n) ℓ → P (cutLine n cap r ℓ)) →
+    ((r : Cutting) (ℓ : ℕ) → Sound n cap r → P r → Smallest n cap r (2 * n) ℓ → P (cutLine n cap r ℓ)) →
     (m : ℕ) → Sound n cap (steps n cap s m) × P (steps n cap s m)
 unfolding steps
 steps-keep n cap s P h p cut zero = (h, p)
 steps-keep n cap s P h p cut (suc m) =
     let was : Sound n cap (steps n cap s m) × P (steps n cap s m) = steps-keep n cap s P h p cut m in
     by-lt (taken n cap (steps n cap s m) (2 * n)) (2 * n)
-    (λ lt. rw (step-cuts n cap (steps n cap s m) lt) (cut-sound n cap (steps n cap s m) (was .0) _ (taken-is-least n cap (steps n cap s m) (was .0) lt), cut (steps n cap s m) _ (was .0) (was .1) (taken-is-least n cap (steps n cap s m) (was .0) lt)))
+    (λ lt. rw (step-cuts n cap (steps n cap s m) lt) (cut-sound n cap (steps n cap s m) (was .0) _ (taken-is-smallest n cap (steps n cap s m) (was .0) lt), cut (steps n cap s m) _ (was .0) (was .1) (taken-is-smallest n cap (steps n cap s m) (was .0) lt)))
     (λ ge. rw (step-still n cap (steps n cap s m) ge) was)
 
 -- ---- the start
@@ -219,7 +219,7 @@ cuts n s = sumTo (2 * n) (λ m. bit (ltb 0 (getD (s .done) m 0)))
 
 module _ (n : ℕ) (cap : List ℕ) where
   -- one line more has been cut
-  cuts-more : (s : Cutting) (h : Sound n cap s) (ℓ : ℕ) → Least n cap s (2 * n) ℓ → cuts n (cutLine n cap s ℓ) ≡ cuts n s + 1
+  cuts-more : (s : Cutting) (h : Sound n cap s) (ℓ : ℕ) → Smallest n cap s (2 * n) ℓ → cuts n (cutLine n cap s ℓ) ≡ cuts n s + 1
   unfolding cuts
   cuts-more s h ℓ γ =
       sum-bump (2 * n) ℓ 1 _ _ (γ .line)
@@ -246,8 +246,8 @@ module _ (n : ℕ) (cap : List ℕ) where
     progress (suc m) =
         by-lt (taken n cap (steps n cap (uncut n d) m) (2 * n)) (2 * n)
         (λ lt. ⊎-elim
-        (λ q. absurd (omega (arith, q .under _ lt, taken-is-least n cap (steps n cap (uncut n d) m) (steps-sound m) lt .over)))
-        (λ (le : m ≤ cuts n (steps n cap (uncut n d) m)). inr (rw (step-cuts n cap (steps n cap (uncut n d) m) lt) (omega (arith, cuts-more (steps n cap (uncut n d) m) (steps-sound m) _ (taken-is-least n cap (steps n cap (uncut n d) m) (steps-sound m) lt)))))
+        (λ q. absurd (omega (arith, q .under _ lt, taken-is-smallest n cap (steps n cap (uncut n d) m) (steps-sound m) lt .over)))
+        (λ (le : m ≤ cuts n (steps n cap (uncut n d) m)). inr (rw (step-cuts n cap (steps n cap (uncut n d) m) lt) (omega (arith, cuts-more (steps n cap (uncut n d) m) (steps-sound m) _ (taken-is-smallest n cap (steps n cap (uncut n d) m) (steps-sound m) lt)))))
         (progress m))
         (λ ge. inl (rw (step-still n cap (steps n cap (uncut n d) m) ge) (none-taken-none-over n cap (steps n cap (uncut n d) m) (steps-sound m) ge)))
 

@@ -41,7 +41,7 @@ pub record Ahead (n : ℕ) (cap a b : List ℕ) (m p : ℕ) (r : Bool) : Type 0 
   pub is : (s : Cutting) → Counted n s a b → r ≡ (exceeds n cap s m && (leb (2 * n) p || smaller n cap s m p))
 
 -- of the lines below m the one to cut next, or 2N: in every state with these sums
-pub record Next (n : ℕ) (cap a b : List ℕ) (m r : ℕ) : Type 0 where
+pub record NextLine (n : ℕ) (cap a b : List ℕ) (m r : ℕ) : Type 0 where
   pub is : (s : Cutting) → Counted n s a b → r ≡ taken n cap s m
 
 -- ---- the invariant of the steps
@@ -53,10 +53,10 @@ pub record Sound (n : ℕ) (cap : List ℕ) (s : Cutting) : Type 0 where
   pub closed : (m : ℕ) → m < 2 * n → 0 < getD (s .done) m 0 → lineSum n (s .values) m ≤ getD cap m 0
 
 -- of the lines below k that exceed, ℓ has a smallest fraction
-pub record Least (n : ℕ) (cap : List ℕ) (s : Cutting) (k ℓ : ℕ) : Type 0 where
+pub record Smallest (n : ℕ) (cap : List ℕ) (s : Cutting) (k ℓ : ℕ) : Type 0 where
   pub line : ℓ < k
   pub over : getD cap ℓ 0 < lineSum n (s .values) ℓ
-  pub least : (m : ℕ) → m < k → getD cap m 0 < lineSum n (s .values) m → numerator n cap s ℓ * unmodifiedSum n s m ≤ numerator n cap s m * unmodifiedSum n s ℓ
+  pub smallest : (m : ℕ) → m < k → getD cap m 0 < lineSum n (s .values) m → numerator n cap s ℓ * unmodifiedSum n s m ≤ numerator n cap s m * unmodifiedSum n s ℓ
 
 -- ---- one cell
 -- what cutting the t-th cell of a line by p/q asks
@@ -84,7 +84,7 @@ pub record CanCutLine (n : ℕ) (cap kept done a b : List ℕ) (ℓ : ℕ) : Typ
   pub demands : Demands n kept
   pub counted : Counted n (cutting kept done) a b
   pub sound : Sound n cap (cutting kept done)
-  pub least : Least n cap (cutting kept done) (2 * n) ℓ
+  pub smallest : Smallest n cap (cutting kept done) (2 * n) ℓ
 
 -- the line is cut, and the tables have the sums of the state afterwards
 pub record LineCut (n : ℕ) (cap kept done a b : List ℕ) (ℓ : ℕ) (kept' done' a' b' : List ℕ) : Type 0 where

@@ -15,24 +15,24 @@ use Rattle.star.specs.Lines.{lineSum, total}
 use Rattle.flow.specs.Flows.{Feasible, Largest, cut}
 use Rattle.flow.proofs.Duality.{within-cut}
 
-module _ (n : ℕ) (bound limit a : List ℕ) where
+module _ (n : ℕ) (bound ceiling a : List ℕ) where
   -- the two parts of being feasible, and both
   unfoldable pub below? : Bool
   below? = allBelow n (λ i. allBelow n (λ j. leb (cell n a i j) (cell n bound i j)))
 
   unfoldable pub lines? : Bool
-  lines? = allBelow (2 * n) (λ ℓ. leb (lineSum n a ℓ) (getD limit ℓ 0))
+  lines? = allBelow (2 * n) (λ ℓ. leb (lineSum n a ℓ) (getD ceiling ℓ 0))
 
   unfoldable pub feasible? : Bool
   feasible? = below? && lines?
 
-  pub feasible-is : feasible? ≡ true → Feasible n bound limit a
+  pub feasible-is : feasible? ≡ true → Feasible n bound ceiling a
   unfolding feasible? below? lines?
   feasible-is e = record {
     below = λ i j p q. leb-true _ _ (all-at n (λ j. leb (cell n a i j) (cell n bound i j)) (all-at n (λ i. allBelow n (λ j. leb (cell n a i j) (cell n bound i j))) (both-first below? lines? e) i p) j q);
-    lines = λ ℓ p. leb-true _ _ (all-at (2 * n) (λ ℓ. leb (lineSum n a ℓ) (getD limit ℓ 0)) (both-second below? lines? e) ℓ p);
+    lines = λ ℓ p. leb-true _ _ (all-at (2 * n) (λ ℓ. leb (lineSum n a ℓ) (getD ceiling ℓ 0)) (both-second below? lines? e) ℓ p);
   }
 
   -- the total of a feasible matrix is that of a cut: both compute
-  pub meets-cut : (marks : List ℕ) → feasible? ≡ true → eqb (total n a) (cut n bound limit marks) ≡ true → Largest n bound limit a
-  meets-cut marks f e = record { feasible = feasible-is f; most = λ b g. omega (arith, within-cut n bound limit b marks g, eqb-true (total n a) (cut n bound limit marks) e) }
+  pub meets-cut : (marks : List ℕ) → feasible? ≡ true → eqb (total n a) (cut n bound ceiling marks) ≡ true → Largest n bound ceiling a
+  meets-cut marks f e = record { feasible = feasible-is f; most = λ b g. omega (arith, within-cut n bound ceiling b marks g, eqb-true (total n a) (cut n bound ceiling marks) e) }

@@ -38,9 +38,9 @@ module _ (n : ℕ) (a : ℕ → ℕ → ℕ) (r c : ℕ → Bool) where
       ∙ sum-add n _ _ ∙ ap₂ _+_ (sum-gate n (not (r i)) (λ j. a i j)) (sum-add n _ _))
       ∙ sum-add n _ _ ∙ ap (λ x. outside + x) (sum-add n _ _ ∙ ap (λ x. x + across) (sum-swap n n (λ i j. gate (r i) (gate (c j) (a i j)))))
 
-module _ (n : ℕ) (bound limit a marks : List ℕ) where
+module _ (n : ℕ) (bound ceiling a marks : List ℕ) where
   -- no feasible matrix exceeds the cut of any marks
-  pub within-cut : Feasible n bound limit a → total n a ≤ cut n bound limit marks
+  pub within-cut : Feasible n bound ceiling a → total n a ≤ cut n bound ceiling marks
   unfolding outside within across total cut
   within-cut f = rw (parts n (cell n a) (marked marks) (λ j. marked marks (n + j))) (add-le-add
       (sum-mono n _ _ (λ i p. gate-mono (not (marked marks i)) _ _ (rw (row-sum n a i p) at (f .lines i (omega arith)))))
@@ -52,7 +52,7 @@ module _ (n : ℕ) (bound limit a marks : List ℕ) where
       (sum-mono n _ _ (λ i p. sum-mono n _ _ (λ j q. gate-mono (marked marks i) _ _ (gate-mono (not (marked marks (n + j))) _ _ (f .below i j p q)))))))
 
   -- what a finished search leaves meets the cut of its marks
-  pub closed-meets-cut : Closed n bound limit a marks → total n a ≡ cut n bound limit marks
+  pub closed-meets-cut : Closed n bound ceiling a marks → total n a ≡ cut n bound ceiling marks
   unfolding outside within across total cut
   closed-meets-cut f = parts n (cell n a) (marked marks) (λ j. marked marks (n + j)) ∙ ap₂ _+_
       (sum-ext n _ _ (λ i p. gate-cong (not (marked marks i)) _ _ (λ t. sym (row-sum n a i p) ∙ f .rows i p (not-true _ t))))
@@ -63,5 +63,5 @@ module _ (n : ℕ) (bound limit a marks : List ℕ) where
       (sum-ext n _ _ (λ i p. sum-ext n _ _ (λ j q. gate-cong (marked marks i) _ _ (λ t. gate-cong (not (marked marks (n + j))) _ _ (λ u. f .full i j p q t (not-true _ u)))))))
 
 -- so its total is the greatest
-pub closed-is-largest : (n : ℕ) (bound limit a marks : List ℕ) → Feasible n bound limit a → Closed n bound limit a marks → Largest n bound limit a
-closed-is-largest n bound limit a marks f k = record { feasible = f; most = λ b g. rw (closed-meets-cut n bound limit a marks k) (within-cut n bound limit b marks g) }
+pub closed-is-largest : (n : ℕ) (bound ceiling a marks : List ℕ) → Feasible n bound ceiling a → Closed n bound ceiling a marks → Largest n bound ceiling a
+closed-is-largest n bound ceiling a marks f k = record { feasible = f; most = λ b g. rw (closed-meets-cut n bound ceiling a marks k) (within-cut n bound ceiling b marks g) }

@@ -1,4 +1,4 @@
--- The laws of matrices below bounds and limits, and of how a matrix grows.
+-- The laws of matrices below bounds and ceilings, and of how a matrix grows.
 pub mod Duality
 pub mod Check
 pub mod Grows

@@ -1,6 +1,5 @@
-// A matrix grows along paths from rows with room to columns with room, until there is none.
-use arrays::lists;
-use growth::sides::roomy;
+// A matrix grows along paths from rows with headroom to columns with headroom, until there is none.
+use growth::sides::open_lines;
 use layers::search;
 use walks::walk::drain;
 ghost use Prim.Native.Nat.{_*_, _≤_};
@@ -13,7 +12,7 @@ fn grow_with(
     n: usize,
     bound: &[u32],
     a: &mut [u32],
-    room: &mut [u32],
+    headroom: &mut [u32],
     offers: &mut [u64],
     takers: &mut [u64],
     rows: &mut [u64],
@@ -22,12 +21,12 @@ fn grow_with(
     to: &mut [u8],
     marks: &mut [u8],
 )
-    requires { ⌜ CanGrow n (now bound) (now a) (now room) (now offers) (now takers) (now rows) (now columns) (now at) (now to) (now marks) ⌝ }
-    ensures { λ _. ⌜ Grown n (now (bound .entry)) (now (a .entry)) (now (room .entry)) (now (a .exit)) (now (room .exit)) (now (marks .exit)) ⌝ }
+    requires { ⌜ CanGrow n (now bound) (now a) (now headroom) (now offers) (now takers) (now rows) (now columns) (now at) (now to) (now marks) ⌝ }
+    ensures { λ _. ⌜ Grown n (now (bound .entry)) (now (a .entry)) (now (headroom .entry)) (now (a .exit)) (now (headroom .exit)) (now (marks .exit)) ⌝ }
 {
     loop {
-        let roots = roomy(n, room, 0);
-        let goals = roomy(n, room, n);
+        let roots = open_lines(n, headroom, 0);
+        let goals = open_lines(n, headroom, n);
         let last = search(n, offers, takers, rows, columns, marks, roots, goals);
         if last > n {
             return;
@@ -36,7 +35,7 @@ fn grow_with(
             n,
             bound,
             a,
-            room,
+            headroom,
             offers,
             takers,
             rows,
@@ -48,18 +47,18 @@ fn grow_with(
     }
 }
 
-// Grows a matrix whose sets are right until no column with room is reached.
+// Grows a matrix whose sets are right until no column with headroom is reached.
 pub fn grow(
     n: usize,
     bound: &[u32],
     a: &mut [u32],
-    room: &mut [u32],
+    headroom: &mut [u32],
     offers: &mut [u64],
     takers: &mut [u64],
     marks: &mut [u8],
 )
-    requires { ⌜ (Sides n (now bound) (now a) (now offers) (now takers)) × (2 * n ≤ length (now room)) × (2 * n ≤ length (now marks)) ⌝ }
-    ensures { λ _. ⌜ Grown n (now (bound .entry)) (now (a .entry)) (now (room .entry)) (now (a .exit)) (now (room .exit)) (now (marks .exit)) ⌝ }
+    requires { ⌜ (Sides n (now bound) (now a) (now offers) (now takers)) × (2 * n ≤ length (now headroom)) × (2 * n ≤ length (now marks)) ⌝ }
+    ensures { λ _. ⌜ Grown n (now (bound .entry)) (now (a .entry)) (now (headroom .entry)) (now (a .exit)) (now (headroom .exit)) (now (marks .exit)) ⌝ }
 {
     let mut rows = [0u64; 65];
     let mut columns = [0u64; 65];
@@ -69,7 +68,7 @@ pub fn grow(
         n,
         bound,
         a,
-        room,
+        headroom,
         offers,
         takers,
         &mut rows,

@@ -1,4 +1,4 @@
--- A matrix `a` that grows below its bound, and what each of its lines may still take. `room` holds the latter for each of the 2N lines.
+-- A matrix `a` that grows below its bound, and the headroom of its lines: what each may still take. `headroom` has one number for each of the 2N lines.
 use Prim.Native.Nat.{ℕ, _+_, _*_, _≤_, _<_}
 use mathlib.Core.Path.{_≡_}
 use mathlib.Core.List.{List}
@@ -15,17 +15,17 @@ pub record Below (n : ℕ) (bound a : List ℕ) : Type 0 where
   pub cells : Square n a
   pub below : (i j : ℕ) → i < n → j < n → cell n a i j ≤ cell n bound i j
 
--- what a line has and may still take: its limit
-unfoldable pub span : (n : ℕ) (a room : List ℕ) (ℓ : ℕ) → ℕ
-span n a room ℓ = lineSum n a ℓ + getD room ℓ 0
+-- what a line has and may still take: its ceiling
+unfoldable pub span : (n : ℕ) (a headroom : List ℕ) (ℓ : ℕ) → ℕ
+span n a headroom ℓ = lineSum n a ℓ + getD headroom ℓ 0
 
--- each line's sum and room together did not change
-pub record SpansKept (n : ℕ) (a room a' room' : List ℕ) : Type 0 where
-  pub spans : (ℓ : ℕ) → ℓ < 2 * n → span n a' room' ℓ ≡ span n a room ℓ
+-- each line's sum and headroom together did not change
+pub record SpansKept (n : ℕ) (a headroom a' headroom' : List ℕ) : Type 0 where
+  pub spans : (ℓ : ℕ) → ℓ < 2 * n → span n a' headroom' ℓ ≡ span n a headroom ℓ
 
 -- what all rows may still take
-unfoldable pub rowRoom : (n : ℕ) (room : List ℕ) → ℕ
-rowRoom n room = sumTo n (λ i. getD room i 0)
+unfoldable pub rowHeadroom : (n : ℕ) (headroom : List ℕ) → ℕ
+rowHeadroom n headroom = sumTo n (λ i. getD headroom i 0)
 
 -- x on line t, and 0 on every other line
 unfoldable pub only : (ℓ t x : ℕ) → ℕ

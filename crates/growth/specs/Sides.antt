@@ -16,9 +16,9 @@ pub record Sides (n : ℕ) (bound a offers takers : List ℕ) : Type 0 where
   pub more : (i j : ℕ) → i < n → j < n → member i (getD offers j 0) ≡ min 1 (cell n bound i j - cell n a i j)
   pub less : (i j : ℕ) → i < n → j < n → member j (getD takers i 0) ≡ min 1 (cell n a i j)
 
--- those of n lines from `from` on that have room
-pub record Open (n : ℕ) (room : List ℕ) (from s : ℕ) : Type 0 where
-  pub members : (k : ℕ) → k < n → member k s ≡ min 1 (getD room (from + k) 0)
+-- the open lines, those with headroom, of the n lines from `from` on
+pub record OpenLines (n : ℕ) (headroom : List ℕ) (from s : ℕ) : Type 0 where
+  pub members : (k : ℕ) → k < n → member k s ≡ min 1 (getD headroom (from + k) 0)
   pub within : Within n s
 
 -- row i can give x more to column j, or x less
@@ -43,15 +43,15 @@ pub record Less (n : ℕ) (bound a a' offers' takers' : List ℕ) (i j x : ℕ) 
   pub cells : a' ≡ set a (i * n + j) (cell n a i j - x)
   pub sides : Sides n bound a' offers' takers'
 
--- the matrix has changed, the sets are right again, and each line's limit is kept
-pub record Grew (n : ℕ) (bound a room a' room' offers' takers' : List ℕ) : Type 0 where
+-- the matrix has changed, the sets are right again, and each line's ceiling is kept
+pub record Grew (n : ℕ) (bound a headroom a' headroom' offers' takers' : List ℕ) : Type 0 where
   pub sides : Sides n bound a' offers' takers'
-  pub kept : SpansKept n a room a' room'
+  pub kept : SpansKept n a headroom a' headroom'
 
--- row i has given x to column j, out of its own room and as much as is wanted at most; the column's room is not touched
-pub record GrewAt (n : ℕ) (bound a room a' room' offers' takers' : List ℕ) (i j want x : ℕ) : Type 0 where
+-- row i has given x to column j, out of its own headroom and as much as is wanted at most; the column's headroom is not touched
+pub record GrewAt (n : ℕ) (bound a headroom a' headroom' offers' takers' : List ℕ) (i j want x : ℕ) : Type 0 where
   pub sides : Sides n bound a' offers' takers'
   pub most : x ≤ want
-  pub row : x ≤ getD room i 0
-  pub rooms : room' ≡ set room i (getD room i 0 - x)
+  pub row : x ≤ getD headroom i 0
+  pub headrooms : headroom' ≡ set headroom i (getD headroom i 0 - x)
   pub sums : (ℓ : ℕ) → ℓ < 2 * n → lineSum n a' ℓ ≡ lineSum n a ℓ + only ℓ i x + only ℓ (n + j) x

@@ -1,3 +1,3 @@
-// A matrix that grows below bounds while its lines have room.
+// A matrix that grows below bounds while its lines have headroom.
 pub mod fill;
 pub mod sides;

@@ -7,17 +7,17 @@ ghost use Prim.Native.Nat.{ℕ, _+_, _≤_};
 ghost use mathlib.Core.List.{List};
 ghost use lib.ListN.{length};
 ghost use Rattle.star.specs.Tables.{Square};
-ghost use Rattle.growth.specs.Sides.{Sides, Open, CanMore, CanLess, More, Less};
+ghost use Rattle.growth.specs.Sides.{Sides, OpenLines, CanMore, CanLess, More, Less};
 
-// Those of n lines from line `from` on that have room.
-pub fn roomy(n: usize, room: &[u32], from: usize) -> u64
-    requires { ⌜ (n ≤ 64) × (from + n ≤ length (now room)) ⌝ }
-    ensures { λ r. ⌜ Open n (now (room .entry)) from r ⌝ }
+// The open lines, those with headroom, of the n lines from line `from` on.
+pub fn open_lines(n: usize, headroom: &[u32], from: usize) -> u64
+    requires { ⌜ (n ≤ 64) × (from + n ≤ length (now headroom)) ⌝ }
+    ensures { λ r. ⌜ OpenLines n (now (headroom .entry)) from r ⌝ }
 {
     let mut s = nodes::none();
     let mut k = 0;
     while k < n {
-        s = nodes::with_where(s, k, room[from + k] > 0);
+        s = nodes::with_where(s, k, headroom[from + k] > 0);
         k += 1;
     }
     s

@@ -74,13 +74,13 @@ module _ {n : ℕ} {table source bytes0 bytes : List ℕ} {most h j : ℕ} (c : 
       set-more (λ u. heardFrom (cell n (paddedIn table) (getD source u 0) u) (cell n (keptIn table) (getD source u 0) u) (getD source u 0)) bytes j x
       (omega (arith, g .len, c .outs)) heard-here (g .says)
 
-  pub hear-step : {least : ℕ} → least ≡ min h y → Hearing n table source bytes0 (set bytes j x) most least (j + 1)
-  hear-step {least} e = record {
+  pub hear-step : {fewest : ℕ} → fewest ≡ min h y → Hearing n table source bytes0 (set bytes j x) most fewest (j + 1)
+  hear-step {fewest} e = record {
     upto = omega arith;
     len = length-set bytes j x ∙ g .len;
     some = omega (arith, g .some, y-some);
     within = omega (arith, g .within);
-    lasts = below-more (λ (u : ℕ). least ≤ lasting (cell n (paddedIn table) (getD source u 0) u) (cell n (keptIn table) (getD source u 0) u)) j
+    lasts = below-more (λ (u : ℕ). fewest ≤ lasting (cell n (paddedIn table) (getD source u 0) u) (cell n (keptIn table) (getD source u 0) u)) j
         (λ u hu. omega (arith, g .lasts u hu)) (omega (arith, lasts-here));
     says = says-more;
   }

@@ -20,14 +20,14 @@ use Rattle.at_least.specs.AtLeast.{AtLeastIn, AtLeast}
 use Rattle.cells.specs.Cells.{paddedIn, keptIn, Took}
 use Rattle.cells.proofs.CellLaws.{padded-length}
 use Rattle.pairs.specs.declared.free.Free.{Free}
-use Rattle.pairs.specs.Pairs.{allowed, taken, Paired, Unpaired, FreeNodes}
-use Rattle.holds.specs.Holds.{Taken}
+use Rattle.pairs.specs.Pairs.{allowed, partners, Paired, Unpaired, FreeNodes}
+use Rattle.holds.specs.Holds.{Deducted}
 use Rattle.holds.specs.Turns.{CanTake, Parted}
 
 -- ---- lines
-module _ {n : ℕ} {x y source : List ℕ} {h : ℕ} (d : Taken n x y source h) where
-  row-less : (i : ℕ) → i < n → taken n source i ≡ 1 → lineSum n y i + h ≡ lineSum n x i
-  unfolding taken
+module _ {n : ℕ} {x y source : List ℕ} {h : ℕ} (d : Deducted n x y source h) where
+  row-less : (i : ℕ) → i < n → partners n source i ≡ 1 → lineSum n y i + h ≡ lineSum n x i
+  unfolding partners
   row-less i hi once =
       let one : h * sumTo n (λ j. hit (getD source j 0) i) ≡ h = rw once (omega arith) in
       omega (
@@ -53,7 +53,7 @@ module _ {n : ℕ} {x y source : List ℕ} {h : ℕ} (d : Taken n x y source h) 
         one,
       )
 
-  pub line-less : ((i : ℕ) → i < n → taken n source i ≡ 1) → ((j : ℕ) → j < n → getD source j 0 < n) → (ℓ : ℕ) → ℓ < 2 * n → lineSum n y ℓ + h ≡ lineSum n x ℓ
+  pub line-less : ((i : ℕ) → i < n → partners n source i ≡ 1) → ((j : ℕ) → j < n → getD source j 0 < n) → (ℓ : ℕ) → ℓ < 2 * n → lineSum n y ℓ + h ≡ lineSum n x ℓ
   line-less once full ℓ hl =
       by-lt ℓ n (λ lt. row-less ℓ lt (once ℓ lt))
       (λ le. let e : n + (ℓ - n) ≡ ℓ = omega arith in rw e at (column-less (ℓ - n) (omega arith) (full (ℓ - n) (omega arith))))
@@ -276,7 +276,7 @@ pub take-end : {n : ℕ} {table0 may0 source0 destination0 table may source dest
     → Taking n table0 may0 source0 destination0 table may source destination level h (free' .sources) (free' .destinations) j → n ≤ j
     → Parted n table0 source0 table may source destination level h free'
 take-end {table0 = table0} {table = table} c g le = record {
-  takes = record { less = record { less = λ i u hi hu. g .less i u hi (omega arith) }; kept = g .kept };
+  deducts = record { less = record { less = λ i u hi hu. g .less i u hi (omega arith) }; kept = g .kept };
   standing = record {
     table-room = square-kept table0 table (g .table-len) (c .standing .table-room);
     rooms = record {

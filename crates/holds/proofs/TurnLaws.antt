@@ -17,11 +17,11 @@ use Rattle.arrays.specs.Arrays.{Filled}
 use Rattle.at_least.specs.AtLeast.{AtLeast}
 use Rattle.cells.specs.Cells.{paddedIn, keptIn}
 use Rattle.pairs.specs.declared.free.Free.{Free}
-use Rattle.pairs.specs.Pairs.{allowed, taken, Paired, Rooms, CanMatch, Matched, Stuck}
-use Rattle.pairs.proofs.Counts.{never-stuck, taken-all}
+use Rattle.pairs.specs.Pairs.{allowed, partners, Paired, Rooms, CanMatch, Matched, Stuck}
+use Rattle.pairs.proofs.Counts.{never-stuck, partners-all}
 use Rattle.pairs.proofs.Matches.{all-free}
 use Rattle.holds.specs.declared.turns.Turn.{Turn}
-use Rattle.holds.specs.Holds.{CanHear, Hears, Takes, Next}
+use Rattle.holds.specs.Holds.{CanHear, Hears, Deducts, Next}
 use Rattle.holds.specs.Turns.{Standing, Even, Begun, CanPair, Ready, CanTake, Parted, CanTurn, Turned}
 use Rattle.holds.proofs.HearLaws.{lasting-idle, lasting-due, heard-idle, heard-due}
 use Rattle.holds.proofs.TakeLaws.{line-less}
@@ -148,7 +148,7 @@ module _ {n : ℕ} {table source before : List ℕ} {most : ℕ} (c : CanHear n 
   byte-source j hj lt = ⊎-elim (λ a. a .0) (λ b. absurd (omega (arith, b .0, c .table-room .nodes))) (byte-is j hj)
 
   byte-once : (j u : ℕ) → j < n → u < n → getD out j 0 < n → getD out j 0 ≡ getD out u 0 → j ≡ u
-  unfolding taken
+  unfolding partners
   byte-once j u hj hu lt e =
       by-eq j u (λ q. q)
       (λ ne.
@@ -161,7 +161,7 @@ module _ {n : ℕ} {table source before : List ℕ} {most : ℕ} (c : CanHear n 
         c .once (getD source j 0) (c .full j hj),
       )))
 
-  pub next-law : {table' : List ℕ} → Takes n table table' source h → Next n table table' out most h
+  pub next-law : {table' : List ℕ} → Deducts n table table' source h → Next n table table' out most h
   next-law {table'} k =
       let keeps : (i j : ℕ) → cell n (keptIn table') i j ≡ cell n (keptIn table) i j = λ i j. ap (λ (x : List ℕ). cell n x i j) (k .kept) in
       record {
@@ -206,7 +206,7 @@ module _ {n : ℕ} {table may source destination bytes : List ℕ} {turn : Turn}
       sources = r .standing .rooms .sources;
       outs = c .outs;
       full = r .full .all;
-      once = taken-all (r .standing .paired) (r .full);
+      once = partners-all (r .standing .paired) (r .full);
       gets = λ j hj. omega (
         arith,
         r .standing .some,
@@ -221,4 +221,4 @@ module _ {n : ℕ} {table may source destination bytes : List ℕ} {turn : Turn}
 
       pub turn-next : {table' may'' source'' destination'' : List ℕ} {free : Free} → Parted n table source' table' may'' source'' destination'' (ready .level) h free
           → Turned n table table' may'' source'' destination'' bytes' left (record { slots = h; level = ready .level; held = ready .held + 1; free = free })
-      turn-next p = record { next = next-law turn-hear d (p .takes); standing = p .standing; few = omega (arith, c .few, r .few, d .some) }
+      turn-next p = record { next = next-law turn-hear d (p .deducts); standing = p .standing; few = omega (arith, c .few, r .few, d .some) }

@@ -12,7 +12,7 @@ use Rattle.sums.specs.Tables.{cell}
 use Rattle.star.specs.Tables.{Square}
 use Rattle.star.specs.Lines.{lineSum}
 use Rattle.cells.specs.Cells.{paddedIn, keptIn}
-use Rattle.pairs.specs.Pairs.{taken}
+use Rattle.pairs.specs.Pairs.{partners}
 
 -- for how many slots a pair's byte stays the same: as long as it is idle, and then as long as it is due
 unfoldable pub lasting : (padded kept : ℕ) → ℕ
@@ -32,7 +32,7 @@ pub record CanHear (n : ℕ) (table source bytes : List ℕ) (most : ℕ) : Type
   pub sources : n ≤ length source
   pub outs : n ≤ length bytes
   pub full : (j : ℕ) → j < n → getD source j 0 < n
-  pub once : (i : ℕ) → i < n → taken n source i ≡ 1
+  pub once : (i : ℕ) → i < n → partners n source i ≡ 1
   pub gets : (j : ℕ) → j < n → 1 ≤ cell n (paddedIn table) (getD source j 0) j
   pub some : 1 ≤ most
 
@@ -43,12 +43,12 @@ pub record Hears (n : ℕ) (table source bytes : List ℕ) (most h : ℕ) : Type
   pub says : (j : ℕ) → j < n → getD bytes j 0 ≡ heardFrom (cell n (paddedIn table) (getD source j 0) j) (cell n (keptIn table) (getD source j 0) j) (getD source j 0)
 
 -- y is x with h less at the pair of each destination and its source
-pub record Taken (n : ℕ) (x y source : List ℕ) (h : ℕ) : Type 0 where
+pub record Deducted (n : ℕ) (x y source : List ℕ) (h : ℕ) : Type 0 where
   pub less : (i j : ℕ) → i < n → j < n → cell n y i j + h * hit (getD source j 0) i ≡ cell n x i j
 
 -- each pair gets so much less, and keeps what it did
-pub record Takes (n : ℕ) (table table' source : List ℕ) (h : ℕ) : Type 0 where
-  pub less : Taken n (paddedIn table) (paddedIn table') source h
+pub record Deducts (n : ℕ) (table table' source : List ℕ) (h : ℕ) : Type 0 where
+  pub less : Deducted n (paddedIn table) (paddedIn table') source h
   pub kept : keptIn table' ≡ keptIn table
 
 -- The setting that comes next: it is held for h slots, and those are taken. Nobody hears two sources, no source is heard twice, the slots

@@ -11,7 +11,7 @@ use Rattle.cells.specs.Cells.{paddedIn}
 use Rattle.pairs.specs.declared.free.Free.{Free}
 use Rattle.pairs.specs.Pairs.{Paired, FreeNodes, Full, Rooms}
 use Rattle.holds.specs.declared.turns.Turn.{Turn}
-use Rattle.holds.specs.Holds.{Takes, Next}
+use Rattle.holds.specs.Holds.{Deducts, Next}
 
 -- what holds between two turns: the pairs that still get at least `level` slots are those that may be paired, and the free nodes are known
 pub record Standing (n : ℕ) (table may source destination : List ℕ) (level : ℕ) (free : Free) : Type 0 where
@@ -50,7 +50,7 @@ pub record CanTake (n : ℕ) (table may source destination : List ℕ) (level h 
 
 -- h slots are taken from the pairs that were, and what holds between two turns holds at the same level
 pub record Parted (n : ℕ) (table source table' may' source' destination' : List ℕ) (level h : ℕ) (free : Free) : Type 0 where
-  pub takes : Takes n table table' source h
+  pub deducts : Deducts n table table' source h
   pub standing : Standing n table' may' source' destination' level free
 
 pub record CanTurn (n : ℕ) (table may source destination bytes : List ℕ) (turn : Turn) (left : ℕ) : Type 0 where

@@ -21,7 +21,7 @@ use Rattle.star.proofs.LineLaws.{total-rows, total-columns, line-ext, cell-in-r
 use Rattle.arrays.proofs.Stores.{square-kept}
 use Rattle.cells.specs.Cells.{paddedIn, Gave}
 use Rattle.cells.proofs.CellLaws.{padded-at, kept-at, padded-length}
-use Rattle.idle.specs.Idle.{Small, Loaded, Largest, Lacking, Lacks, CanPad, Fuller, PaddedAt, PaddedAll, CanFill, Padded}
+use Rattle.idle.specs.Idle.{Small, Loaded, LargestSum, Lacking, Lacks, CanPad, Fuller, PaddedAt, PaddedAll, CanFill, Padded}
 use Rattle.idle.proofs.LineStores.{place-row-sum, line-more}
 
 -- small line sums are sums of demands
@@ -63,13 +63,13 @@ load-end {n = n} {kept = kept} {table = table} small g le =
 pub record Topping (n : ℕ) (sums : List ℕ) (most m : ℕ) : Type 0 where
   pub within : m ≤ 2 * n
   pub above : (ℓ : ℕ) → ℓ < m → getD sums ℓ 0 ≤ most
-  pub least : (b : ℕ) → ((ℓ : ℕ) → ℓ < 2 * n → getD sums ℓ 0 ≤ b) → most ≤ b
+  pub tight : (b : ℕ) → ((ℓ : ℕ) → ℓ < 2 * n → getD sums ℓ 0 ≤ b) → most ≤ b
 
 pub top-step : {n : ℕ} {sums : List ℕ} {most m : ℕ} {most' : ℕ} → Topping n sums most m → m < 2 * n → most' ≡ max most (getD sums m 0) → Topping n sums most' (m + 1)
 top-step {sums = sums} {most = most} {m = m} {most' = most'} g lt e = record {
   within = omega arith;
   above = below-more (λ (ℓ : ℕ). getD sums ℓ 0 ≤ most') m (λ ℓ h. omega (arith, g .above ℓ h)) (omega arith);
-  least = λ b all. omega (arith, g .least b all, all m lt);
+  tight = λ b all. omega (arith, g .tight b all, all m lt);
 }
 
 -- ---- what the lines below m lack, in place of their sums
@@ -79,7 +79,7 @@ pub record Lessening (n : ℕ) (sums lack : List ℕ) (r m : ℕ) : Type 0 where
   pub done : (ℓ : ℕ) → ℓ < m → getD sums ℓ 0 + getD lack ℓ 0 ≡ r
   pub rest : (ℓ : ℕ) → m ≤ ℓ → getD lack ℓ 0 ≡ getD sums ℓ 0
 
-pub lack-step : {n : ℕ} {sums lack : List ℕ} {r m : ℕ} → 2 * n ≤ length sums → Largest n sums r → Lessening n sums lack r m → m < 2 * n
+pub lack-step : {n : ℕ} {sums lack : List ℕ} {r m : ℕ} → 2 * n ≤ length sums → LargestSum n sums r → Lessening n sums lack r m → m < 2 * n
     → Lessening n sums (set lack m (r - getD lack m 0)) r (m + 1)
 lack-step {sums = sums} {lack = lack} {r = r} {m = m} fits h g lt =
     record {
@@ -309,11 +309,11 @@ spare-step lt g ev el f = record {
 }
 
 -- ---- the whole
-most-small : {n : ℕ} {kept sums : List ℕ} {r : ℕ} → Small n kept → Summed n kept sums → Largest n sums r → r ≤ 1024
-most-small small s t = t .least 1024 (λ ℓ h. omega (arith, s .lines ℓ h, small .lines ℓ h))
+most-small : {n : ℕ} {kept sums : List ℕ} {r : ℕ} → Small n kept → Summed n kept sums → LargestSum n sums r → r ≤ 1024
+most-small small s t = t .tight 1024 (λ ℓ h. omega (arith, s .lines ℓ h, small .lines ℓ h))
 
 -- v is the loaded table, and w the same with idle slots at pairs that keep nothing
-module _ {n : ℕ} {kept v sums : List ℕ} {r : ℕ} (c : Loaded n kept v) (s : Summed n kept sums) (t : Largest n sums r) {lack : List ℕ} (k : Lacking n sums lack r) where
+module _ {n : ℕ} {kept v sums : List ℕ} {r : ℕ} (c : Loaded n kept v) (s : Summed n kept sums) (t : LargestSum n sums r) {lack : List ℕ} (k : Lacking n sums lack r) where
   lacks-of : Lacks n v lack r
   lacks-of = record { lines = λ ℓ h. omega (arith, k .all ℓ h, s .lines ℓ h, line-ext n (paddedIn v) kept (c .padded) ℓ h) }
 
@@ -325,5 +325,5 @@ module _ {n : ℕ} {kept v sums : List ℕ} {r : ℕ} (c : Loaded n kept v) (s :
     lines = p .lines r (f .keeps r lacks-of);
     cells = λ i j hi hj. omega (arith, f .cells i j hi hj, p .cells i j hi hj, c .padded i j hi hj);
     keeps = λ i j hi hj. ap (λ (x : List ℕ). cell n x i j) (p .kept ∙ f .kept) ∙ c .keeps i j hi hj;
-    least = λ b h. t .least b (λ ℓ hl. omega (arith, s .lines ℓ hl, h ℓ hl));
+    tight = λ b h. t .tight b (λ ℓ hl. omega (arith, s .lines ℓ hl, h ℓ hl));
   }

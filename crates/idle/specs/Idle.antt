@@ -19,9 +19,9 @@ pub record Loaded (n : ℕ) (kept table : List ℕ) : Type 0 where
   pub keeps : (i j : ℕ) → i < n → j < n → cell n (keptIn table) i j ≡ cell n kept i j
 
 -- no sum is above r, and r is no more than needed
-pub record Largest (n : ℕ) (sums : List ℕ) (r : ℕ) : Type 0 where
+pub record LargestSum (n : ℕ) (sums : List ℕ) (r : ℕ) : Type 0 where
   pub above : (ℓ : ℕ) → ℓ < 2 * n → getD sums ℓ 0 ≤ r
-  pub least : (b : ℕ) → ((ℓ : ℕ) → ℓ < 2 * n → getD sums ℓ 0 ≤ b) → r ≤ b
+  pub tight : (b : ℕ) → ((ℓ : ℕ) → ℓ < 2 * n → getD sums ℓ 0 ≤ b) → r ≤ b
 
 pub record Lacking (n : ℕ) (sums lack : List ℕ) (r : ℕ) : Type 0 where
   pub all : (ℓ : ℕ) → ℓ < 2 * n → getD sums ℓ 0 + getD lack ℓ 0 ≡ r
@@ -63,4 +63,4 @@ pub record Padded (n : ℕ) (kept table : List ℕ) (r : ℕ) : Type 0 where
   pub lines : (ℓ : ℕ) → ℓ < 2 * n → lineSum n (paddedIn table) ℓ ≡ r
   pub cells : (i j : ℕ) → i < n → j < n → cell n kept i j ≤ cell n (paddedIn table) i j
   pub keeps : (i j : ℕ) → i < n → j < n → cell n (keptIn table) i j ≡ cell n kept i j
-  pub least : (b : ℕ) → ((ℓ : ℕ) → ℓ < 2 * n → lineSum n kept ℓ ≤ b) → r ≤ b
+  pub tight : (b : ℕ) → ((ℓ : ℕ) → ℓ < 2 * n → lineSum n kept ℓ ≤ b) → r ≤ b

@@ -5,7 +5,7 @@ use star::numbers::smaller;
 ghost use Prim.Native.Nat.{_*_, _<_, _≤_};
 ghost use lib.ListN.{length};
 ghost use Rattle.star.specs.Tables.{Square};
-ghost use Rattle.idle.specs.Idle.{Small, Loaded, Largest, Lacking, CanPad, Fuller, PaddedAt, PaddedAll, CanFill, Padded};
+ghost use Rattle.idle.specs.Idle.{Small, Loaded, LargestSum, Lacking, CanPad, Fuller, PaddedAt, PaddedAll, CanFill, Padded};
 
 // Every pair gets what it keeps.
 fn load(n: usize, table: &mut [u32])
@@ -21,9 +21,9 @@ fn load(n: usize, table: &mut [u32])
 }
 
 // The largest of the sums.
-fn largest(n: usize, sums: &[u32]) -> u32
+fn largest_sum(n: usize, sums: &[u32]) -> u32
     requires { ⌜ (n ≤ 64) × (2 * n ≤ length (now sums)) ⌝ }
-    ensures { λ r. ⌜ Largest n (now (sums .entry)) r ⌝ }
+    ensures { λ r. ⌜ LargestSum n (now (sums .entry)) r ⌝ }
 {
     let mut most: u32 = 0;
     let mut line = 0;
@@ -36,7 +36,7 @@ fn largest(n: usize, sums: &[u32]) -> u32
 
 // What each line lacks of r, in place of its sum.
 fn lacks(n: usize, lack: &mut [u32], r: u32)
-    requires { ⌜ (n ≤ 64) × (2 * n ≤ length (now lack)) × (Largest n (now lack) r) ⌝ }
+    requires { ⌜ (n ≤ 64) × (2 * n ≤ length (now lack)) × (LargestSum n (now lack) r) ⌝ }
     ensures { λ _. ⌜ Lacking n (now (lack .entry)) (now (lack .exit)) r ⌝ }
 {
     let mut line = 0;
@@ -131,7 +131,7 @@ fn pad_with(n: usize, table: &mut [u32], lack: &mut [u32]) -> u32
     ensures { λ r. ⌜ Padded n (now (table .entry)) (now (table .exit)) r ⌝ }
 {
     line_sums(n, table, lack);
-    let r = largest(n, lack);
+    let r = largest_sum(n, lack);
     lacks(n, lack, r);
     load(n, table);
     spare_all(n, table, lack);

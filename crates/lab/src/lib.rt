@@ -6,7 +6,7 @@ ghost use Rattle.sums.specs.Tables.{written};
 ghost use Rattle.slots.specs.Places.{CanPlace, Places};
 ghost use Rattle.fair.specs.Fair.{fairKept};
 ghost use Rattle.fair.specs.Cuts.{CanCut};
-ghost use Rattle.flow.specs.Certified.{Bounded, Certified, RoomLeft};
+ghost use Rattle.flow.specs.Certified.{Bounded, Certified, HeadroomLeft};
 ghost use Rattle.least.specs.Least.{keptFrom};
 ghost use Rattle.least.specs.Promises.{CanWithdraw, Withdrew, CanKeep};
 
@@ -24,14 +24,14 @@ pub extern "C" fn lab_fair_cut(n: usize, cap: &[u32], demand: &[u32], kept: &mut
 pub extern "C" fn lab_largest(
     n: usize,
     bound: &[u32],
-    room: &mut [u32],
+    headroom: &mut [u32],
     a: &mut [u32],
     marks: &mut [u8],
 )
-    requires { ⌜ Bounded n (now bound) (now room) (now a) (now marks) ⌝ }
-    ensures { λ _. ⌜ Certified n (now (bound .entry)) (now (room .entry)) (now (a .entry)) (now (marks .entry)) (now (a .exit)) (now (marks .exit)) × RoomLeft n (now (room .entry)) (now (a .exit)) (now (room .exit)) ⌝ }
+    requires { ⌜ Bounded n (now bound) (now headroom) (now a) (now marks) ⌝ }
+    ensures { λ _. ⌜ Certified n (now (bound .entry)) (now (headroom .entry)) (now (a .entry)) (now (marks .entry)) (now (a .exit)) (now (marks .exit)) × HeadroomLeft n (now (headroom .entry)) (now (a .exit)) (now (headroom .exit)) ⌝ }
 {
-    flow::largest(n, bound, room, a, marks);
+    flow::largest(n, bound, headroom, a, marks);
 }
 
 // `least::withdrawn::withdraw`.

@@ -69,15 +69,15 @@ lead-end {which = which} l le B = record {
 -- ---- the marks
 -- one node, found by the set of it alone
 module _ {s z one b f k : ℕ} (lt : k < 64) (Z : None z) (W : With z k one) (B : Both s one b) (F : First b f) where
-  pub outside-no : f < 64 → 0 + member k s ≡ 1
-  outside-no h =
+  pub absent-no : f < 64 → 0 + member k s ≡ 1
+  absent-no h =
       let e = F .found h in
       by-eq f k
       (λ q. let m : member k s ≡ 1 = rw q at (both-left B f e) in omega arith)
       (λ q. absurd (omega (arith, both-right B f e, W .other f q, Z .out f)))
 
-  pub outside-yes : 64 ≤ f → 1 + member k s ≡ 1
-  outside-yes h =
+  pub absent-yes : 64 ≤ f → 1 + member k s ≡ 1
+  absent-yes h =
       by-eq (member k s) 0
       (λ q. omega arith)
       (λ q. absurd (first-none F h k lt (both-in B k (omega (arith, member-lt k s)) (W .here))))

@@ -1,6 +1,6 @@
 -- Layers: the roots, which are rows; the columns that one of them can give more; the rows from which one of these columns takes; and so on. `rows` and
 -- `columns` have the layers as sets.
-use Prim.Native.Nat.{ℕ, _+_, _*_, _≤_, _<_}
+use Prim.Native.Nat.{ℕ, _+_, _≤_, _<_}
 use mathlib.Core.Path.{_≡_}
 use mathlib.Core.List.{List}
 use lib.ListN.{length, getD}

@@ -1,5 +1,5 @@
-// The search, in layers: rows with room, the columns that one of them can give more, the rows from which one of these columns takes, and so on to a
-// column with room.
+// The search, in layers: rows with headroom, the columns that one of them can give more, the rows from which one of these columns takes, and so on to a
+// column with headroom.
 use arrays::lists;
 ghost use Prim.Native.Nat.{_+_, _*_, _<_, _≤_};
 ghost use lib.ListN.{length};
@@ -25,8 +25,8 @@ fn leading(n: usize, list: &[u64], which: u64, to: u64) -> u64
     nodes::both(s, which)
 }
 
-// 0 where node k is in the set, and 1 elsewhere.
-fn outside(s: u64, k: usize) -> usize
+// 1 where node k is not in the set, and 0 where it is.
+fn absent(s: u64, k: usize) -> usize
     requires { ⌜ k < 64 ⌝ }
     ensures { λ r. ⌜ r + member k s ≡ 1 ⌝ }
 {
@@ -44,8 +44,8 @@ pub fn mark(n: usize, marks: &mut [u8], rows: u64, columns: u64)
 {
     let mut k = 0;
     while k < n {
-        lists::put_byte(marks, k, outside(rows, k));
-        lists::put_byte(marks, n + k, outside(columns, k));
+        lists::put_byte(marks, k, absent(rows, k));
+        lists::put_byte(marks, n + k, absent(columns, k));
         k += 1;
     }
 }

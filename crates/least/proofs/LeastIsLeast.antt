@@ -16,7 +16,7 @@ use Rattle.star.specs.Schedules.{ConflictFree, count, refusedBy}
 use Rattle.star.proofs.LineLaws.{row-sum, column-sum, excess-is, sum-lines}
 use Rattle.flow.specs.Flows.{Feasible}
 use Rattle.least.specs.Least.{Greatest, keptFrom}
-use Rattle.least.proofs.Withdrawals.{feasible-is-withdrawn, limit-at}
+use Rattle.least.proofs.Withdrawals.{feasible-is-withdrawn, ceiling-at}
 use Rattle.least.proofs.Keeping.{refused-total}
 use Rattle.least.proofs.Counts.{counts-admissible}
 
@@ -117,7 +117,7 @@ module _ (n l : ℕ) (cap d s : List ℕ) (fits : Admissible n cap (square n (co
   unfolding twice refused
   twice-feasible = record {
     below = λ i j p q. omega (arith, square-cell n twice i j p q, row-within i j, column-within i j);
-    lines = λ ℓ h. rw (limit-at n cap d ℓ h) (twice-line ℓ h);
+    lines = λ ℓ h. rw (ceiling-at n cap d ℓ h) (twice-line ℓ h);
   }
 
   refused-all : refusedBy n l d s ≡ sumTo n (λ i. sumTo n (refused i))

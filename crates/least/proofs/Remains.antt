@@ -17,7 +17,7 @@ use Rattle.star.proofs.LineLaws.{source-lt, destination-lt, row-sum, column-sum
 use Rattle.flow.specs.Flows.{Feasible}
 use Rattle.least.specs.Least.{Withdrawn, Greatest, left, longer}
 use Rattle.least.specs.Promises.{MeetInZero}
-use Rattle.least.proofs.Withdrawals.{feasible-is-withdrawn, limit-at}
+use Rattle.least.proofs.Withdrawals.{feasible-is-withdrawn, ceiling-at}
 
 -- ---- E, for a withdrawn A
 module _ (n : ℕ) (d a : List ℕ) where
@@ -122,26 +122,26 @@ module _ {n : ℕ} {cap d a : List ℕ} (g : Greatest n cap d a) where
           (λ ny. let none : hit x i * hit y j ≡ 0 = rw (hit-other ny) (omega arith) in omega (arith, grown-cell n a x y hx hy i j p q, w .below i j p q)))
           (λ nx. let none : hit x i * hit y j ≡ 0 = rw (hit-other nx) (omega arith) in omega (arith, grown-cell n a x y hx hy i j p q, w .below i j p q))
 
-      -- a line with room for one more
-      room : (ℓ : ℕ) → ℓ < 2 * n → longer n cap (left n d a) ℓ ≡ true → lineSum n a ℓ + 1 ≤ excess n cap d ℓ
-      room ℓ h l = omega (arith, excess-parts w ℓ h, longer-is n cap (left n d a) ℓ l)
+      -- a line with headroom for one more
+      headroom : (ℓ : ℕ) → ℓ < 2 * n → longer n cap (left n d a) ℓ ≡ true → lineSum n a ℓ + 1 ≤ excess n cap d ℓ
+      headroom ℓ h l = omega (arith, excess-parts w ℓ h, longer-is n cap (left n d a) ℓ l)
 
       lines : (ℓ : ℕ) → ℓ < 2 * n → lineSum n (grown n a x y hx hy) ℓ ≤ excess n cap d ℓ
       lines ℓ h =
           by-lt ℓ n
           (λ p. by-eq x ℓ
-          (λ e. omega (arith, grown-row n a x y hx hy ℓ p, hit-same e, room ℓ h (ap (longer n cap (left n d a)) (sym e) ∙ lx)))
+          (λ e. omega (arith, grown-row n a x y hx hy ℓ p, hit-same e, headroom ℓ h (ap (longer n cap (left n d a)) (sym e) ∙ lx)))
           (λ ne. omega (arith, grown-row n a x y hx hy ℓ p, hit-other ne, w .lines ℓ h)))
           (λ p.
           let j = ℓ - n in
           let at : n + j ≡ ℓ = omega arith in
           let column : lineSum n (grown n a x y hx hy) ℓ ≡ lineSum n a ℓ + hit y j = rw at at (grown-column n a x y hx hy j (omega arith)) in
           by-eq y j
-          (λ e. omega (arith, column, hit-same e, room ℓ h (ap (longer n cap (left n d a)) (sym at ∙ ap (λ x. n + x) (sym e)) ∙ ly)))
+          (λ e. omega (arith, column, hit-same e, headroom ℓ h (ap (longer n cap (left n d a)) (sym at ∙ ap (λ x. n + x) (sym e)) ∙ ly)))
           (λ ne. omega (arith, column, hit-other ne, w .lines ℓ h)))
 
       fits : (cell n (left n d a) x y ≡ 0 → ⊥) → Feasible n d (tab (2 * n) (excess n cap d)) (grown n a x y hx hy)
-      fits ne = record { below = below ne; lines = λ ℓ h. rw (limit-at n cap d ℓ h) (lines ℓ h) }
+      fits ne = record { below = below ne; lines = λ ℓ h. rw (ceiling-at n cap d ℓ h) (lines ℓ h) }
 
   pub two-longer-lines-meet-in-zero : MeetInZero n cap (left n d a)
   two-longer-lines-meet-in-zero = record { zero = meet-in-zero }

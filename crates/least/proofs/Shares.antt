@@ -17,7 +17,7 @@ use Rattle.sums.proofs.Cases.{by-eq, by-lt, by-test}
 use Rattle.star.specs.Lines.{onLine, lineSum}
 use Rattle.star.proofs.LineLaws.{on-line-most}
 use Rattle.least.specs.Least.{share, remainder, missing, before, rank, shared}
-use Rattle.least.specs.Promises.{Line, claim, larger, Divided}
+use Rattle.least.specs.Promises.{Line, claim, outranking, Divided}
 use Rattle.least.proofs.Ranks.{larger-before, smaller-after, lower-before, higher-after, ranks-below, rank-same}
 
 module _ (n : ℕ) (cap e : List ℕ) (ℓ : ℕ) (long : getD cap ℓ 0 < lineSum n e ℓ) where
@@ -91,7 +91,7 @@ module _ (n : ℕ) (cap e : List ℕ) (ℓ : ℕ) (long : getD cap ℓ 0 < lineS
   pub shared-below : (t : ℕ) → shared n cap e ℓ t ≤ onLine n e ℓ t
   unfolding shared
   shared-below t =
-      let room : getD cap ℓ 0 * onLine n e ℓ t ≤ lineSum n e ℓ * onLine n e ℓ t = omega (arith, mul-le-mul-left {m = getD cap ℓ 0} {n = lineSum n e ℓ} (onLine n e ℓ t) (omega arith)) in
+      let below : getD cap ℓ 0 * onLine n e ℓ t ≤ lineSum n e ℓ * onLine n e ℓ t = omega (arith, mul-le-mul-left {m = getD cap ℓ 0} {n = lineSum n e ℓ} (onLine n e ℓ t) (omega arith)) in
       by-lt (rank n (remainder n cap e ℓ) t) (missing n cap e ℓ)
       (λ gains.
       rw (lt-ltb _ _ gains)
@@ -173,10 +173,10 @@ larger-is-before r u t hu ht =
     (λ h. lt-ltb (claim (r t) t) (claim (r u) u) (omega arith) ∙ sym (larger-before r u t h))
     (λ h. le-ltb (claim (r t) t) (claim (r u) u) (omega arith) ∙ sym (smaller-after r u t (omega arith))))
 
-pub larger-claims : (n : ℕ) (r : ℕ → ℕ) (claims : List ℕ) → n ≤ 64 → ((u : ℕ) → u < n → getD claims u 0 ≡ claim (r u) u) → (t : ℕ) → t < n → larger n claims t ≡ rank n r t
-unfolding larger rank
-larger-claims n r claims few is t h = sum-ext n _ _ (λ u p. rw (is t h, is u p) (ap bit (larger-is-before r u t (omega arith) (omega arith))))
+pub outranking-claims : (n : ℕ) (r : ℕ → ℕ) (claims : List ℕ) → n ≤ 64 → ((u : ℕ) → u < n → getD claims u 0 ≡ claim (r u) u) → (t : ℕ) → t < n → outranking n claims t ≡ rank n r t
+unfolding outranking rank
+outranking-claims n r claims few is t h = sum-ext n _ _ (λ u p. rw (is t h, is u p) (ap bit (larger-is-before r u t (omega arith) (omega arith))))
 
-pub divided-shares : (n : ℕ) (cap e : List ℕ) (ℓ : ℕ) (shares claims : List ℕ) (rest : ℕ) → n ≤ 64 → Divided n cap e ℓ shares claims rest → (t : ℕ) → t < n → getD shares t 0 + bit (ltb (larger n claims t) rest) ≡ shared n cap e ℓ t
+pub divided-shares : (n : ℕ) (cap e : List ℕ) (ℓ : ℕ) (shares claims : List ℕ) (rest : ℕ) → n ≤ 64 → Divided n cap e ℓ shares claims rest → (t : ℕ) → t < n → getD shares t 0 + bit (ltb (outranking n claims t) rest) ≡ shared n cap e ℓ t
 unfolding shared
-divided-shares n cap e ℓ shares claims rest few c t h = rw (c .each t h, larger-claims n (remainder n cap e ℓ) claims few (c .claimed) t h, c .lacks) refl
+divided-shares n cap e ℓ shares claims rest few c t h = rw (c .each t h, outranking-claims n (remainder n cap e ℓ) claims few (c .claimed) t h, c .lacks) refl

@@ -22,9 +22,9 @@ use Rattle.least.specs.Least.{Withdrawn, Greatest}
 use Rattle.least.specs.Promises.{Withdrew}
 
 module _ (n : ℕ) (cap d : List ℕ) where
-  -- the limits: each line's excess
-  pub limit-at : (ℓ : ℕ) → ℓ < 2 * n → getD (tab (2 * n) (excess n cap d)) ℓ 0 ≡ excess n cap d ℓ
-  limit-at ℓ h = tab-at (excess n cap d) (2 * n) ℓ 0 h
+  -- the ceilings: each line's excess
+  pub ceiling-at : (ℓ : ℕ) → ℓ < 2 * n → getD (tab (2 * n) (excess n cap d)) ℓ 0 ≡ excess n cap d ℓ
+  ceiling-at ℓ h = tab-at (excess n cap d) (2 * n) ℓ 0 h
 
   pub no-overflow-no-excess : (ℓ : ℕ) → overflows n cap d ℓ ≡ false → excess n cap d ℓ ≡ 0
   no-overflow-no-excess ℓ e = omega (arith, excess-is n cap d ℓ, ltb-false (getD cap ℓ 0) (lineSum n d ℓ) (sym (overflows-is n cap d ℓ) ∙ e))
@@ -39,16 +39,16 @@ module _ (n : ℕ) (cap d : List ℕ) where
 
   module _ {a : List ℕ} where
     pub withdrawn-is-feasible : Withdrawn n cap d a → Feasible n d (tab (2 * n) (excess n cap d)) a
-    withdrawn-is-feasible w = record { below = w .below; lines = λ ℓ h. rw (limit-at ℓ h) (w .lines ℓ h) }
+    withdrawn-is-feasible w = record { below = w .below; lines = λ ℓ h. rw (ceiling-at ℓ h) (w .lines ℓ h) }
 
     pub feasible-is-withdrawn : Feasible n d (tab (2 * n) (excess n cap d)) a → Withdrawn n cap d a
     feasible-is-withdrawn f = record {
       off = λ i j p q e.
           off-critical i j e (cell n a i j)
-          (omega (arith, cell-in-row n a i j p q, rw (limit-at i (omega arith)) at (f .lines i (omega arith))))
-          (omega (arith, cell-in-column n a i j p, rw (limit-at (n + j) (omega arith)) at (f .lines (n + j) (omega arith))));
+          (omega (arith, cell-in-row n a i j p q, rw (ceiling-at i (omega arith)) at (f .lines i (omega arith))))
+          (omega (arith, cell-in-column n a i j p, rw (ceiling-at (n + j) (omega arith)) at (f .lines (n + j) (omega arith))));
       below = f .below;
-      lines = λ ℓ h. rw (limit-at ℓ h) at (f .lines ℓ h);
+      lines = λ ℓ h. rw (ceiling-at ℓ h) at (f .lines ℓ h);
     }
 
   module _ {a : List ℕ} where
@@ -71,13 +71,13 @@ module _ (n : ℕ) (cap d : List ℕ) {m : ℕ} {sums t : List ℕ} (f : Filled 
   pub excess-all : m ≡ 2 * n → take (2 * n) t ≡ tab (2 * n) (excess n cap d)
   excess-all e = ap (take (2 * n)) (filled-all (2 * n) f e) ∙ written-first (2 * n) (tab (2 * n) (excess n cap d)) sums (length-tab (excess n cap d) (2 * n))
 
--- ---- the limits as a table begins with them
-module _ (n : ℕ) (cap d limits : List ℕ) (e : take (2 * n) limits ≡ tab (2 * n) (excess n cap d)) where
-  pub limits-fit : 2 * n ≡ length (take (2 * n) limits)
-  limits-fit = sym (ap length e ∙ length-tab (excess n cap d) (2 * n))
+-- ---- the ceilings as a table begins with them
+module _ (n : ℕ) (cap d ceilings : List ℕ) (e : take (2 * n) ceilings ≡ tab (2 * n) (excess n cap d)) where
+  pub ceilings-fit : 2 * n ≡ length (take (2 * n) ceilings)
+  ceilings-fit = sym (ap length e ∙ length-tab (excess n cap d) (2 * n))
 
   -- the largest matrix below D and the excesses
-  pub certified-is-withdrawn : {a marks a' marks' : List ℕ} → Certified n d (take (2 * n) limits) a marks a' marks' → Withdrew n cap d a marks a' marks'
+  pub certified-is-withdrawn : {a marks a' marks' : List ℕ} → Certified n d (take (2 * n) ceilings) a marks a' marks' → Withdrew n cap d a marks a' marks'
   certified-is-withdrawn {a' = a'} {marks' = marks'} c =
       let feasible = rw e at (c .feasible) in
       let closed = rw e at (c .closed) in

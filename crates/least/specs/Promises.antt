@@ -30,9 +30,9 @@ pub record Line (n : ℕ) (cap e : List ℕ) (ℓ : ℕ) : Type 0 where
 unfoldable pub claim : (remainder t : ℕ) → ℕ
 claim r t = r * 64 + (63 - t)
 
--- how many of n claims are larger than the t-th
-unfoldable pub larger : (n : ℕ) (claims : List ℕ) (t : ℕ) → ℕ
-larger n claims t = sumTo n (λ u. bit (ltb (getD claims t 0) (getD claims u 0)))
+-- how many of n claims outrank the t-th, which is to be larger
+unfoldable pub outranking : (n : ℕ) (claims : List ℕ) (t : ℕ) → ℕ
+outranking n claims t = sumTo n (λ u. bit (ltb (getD claims t 0) (getD claims u 0)))
 
 -- a line too long is divided: the share and the claim of each cell, and what is missing
 pub record Divided (n : ℕ) (cap e : List ℕ) (ℓ : ℕ) (shares claims : List ℕ) (rest : ℕ) : Type 0 where

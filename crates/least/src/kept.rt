@@ -11,10 +11,10 @@ ghost use Rattle.sums.specs.Tables.{square, written};
 ghost use Rattle.star.specs.Tables.{Square};
 ghost use Rattle.star.specs.Lines.{lineSum};
 ghost use Rattle.least.specs.Least.{left, shared, keptCell, keptFrom};
-ghost use Rattle.least.specs.Promises.{Rewritten, Line, claim, larger, Divided, CanShare, CanKeep};
+ghost use Rattle.least.specs.Promises.{Rewritten, Line, claim, outranking, Divided, CanShare, CanKeep};
 
-// Writes E.
-fn leave(n: usize, demand: &[u32], withdrawn: &[u32], table: &mut [u32])
+// Writes E, which is D minus A.
+fn subtract(n: usize, demand: &[u32], withdrawn: &[u32], table: &mut [u32])
     requires { ⌜ (Square n (now demand)) × (Square n (now withdrawn)) ⌝ }
     requires { ⌜ length (now table) ≡ n * n ⌝ }
     requires { ⌜ ((p : ℕ) → p < n * n → getD (now withdrawn) p 0 ≤ getD (now demand) p 0) ⌝ }
@@ -64,8 +64,8 @@ fn divide(
     capacity - given
 }
 
-// 1 if a claim is larger than another, else 0.
-fn exceeds(one: u32, other: u32) -> u32
+// 1 if one claim outranks the other, which is to be larger, else 0.
+fn outranks(one: u32, other: u32) -> u32
     ensures { λ r. ⌜ (r ≡ bit (ltb other one)) × (r ≤ 1) ⌝ }
 {
     if one > other { 1 } else { 0 }
@@ -75,12 +75,12 @@ fn exceeds(one: u32, other: u32) -> u32
 fn rank(n: usize, claims: &[u32], t: usize) -> u32
     requires { ⌜ (n ≤ 64) × (t < n) ⌝ }
     requires { ⌜ n ≤ length (now claims) ⌝ }
-    ensures { λ r. ⌜ r ≡ larger n (now (claims .entry)) t ⌝ }
+    ensures { λ r. ⌜ r ≡ outranking n (now (claims .entry)) t ⌝ }
 {
     let mut count: u32 = 0;
     let mut u = 0;
     while u < n {
-        count += exceeds(claims[u], claims[t]);
+        count += outranks(claims[u], claims[t]);
         u += 1;
     }
     count
@@ -95,11 +95,18 @@ fn gained(share: u32, rank: u32, missing: u32) -> u32
 }
 
 // Gives each cell of a line its share, and the missing slots one each to the cells that come first.
-fn give(n: usize, table: &mut [u32], line: usize, shares: &[u32], claims: &[u32], missing: u32)
+fn give_shares(
+    n: usize,
+    table: &mut [u32],
+    line: usize,
+    shares: &[u32],
+    claims: &[u32],
+    missing: u32,
+)
     requires { ⌜ (Square n (now table)) × (line < 2 * n) ⌝ }
     requires { ⌜ (n ≤ length (now shares)) × (n ≤ length (now claims)) ⌝ }
     requires { ⌜ ((t : ℕ) → t < n → getD (now shares) t 0 ≤ 67107840) ⌝ }
-    ensures { λ _. ⌜ Rewritten n line (λ t. getD (now (shares .entry)) t 0 + bit (ltb (larger n (now (claims .entry)) t) missing)) (now (table .entry)) (now (table .exit)) ⌝ }
+    ensures { λ _. ⌜ Rewritten n line (λ t. getD (now (shares .entry)) t 0 + bit (ltb (outranking n (now (claims .entry)) t) missing)) (now (table .entry)) (now (table .exit)) ⌝ }
 {
     let mut t = 0;
     while t < n {
@@ -118,7 +125,7 @@ fn share_line(n: usize, cap: &[u32], table: &mut [u32], line: usize, sum: u32)
     let mut shares = [0u32; 64];
     let mut claims = [0u32; 64];
     let missing = divide(n, cap, table, line, sum, &mut shares, &mut claims);
-    give(n, table, line, &shares, &claims, missing);
+    give_shares(n, table, line, &shares, &claims, missing);
 }
 
 // Cuts every line of E that is too long, given the sums of all lines of E. Two such lines meet only in a zero cell, so no cut changes a line that
@@ -143,7 +150,7 @@ fn keep_exactly(n: usize, cap: &[u32], demand: &[u32], withdrawn: &[u32], kept: 
     ensures { λ _. ⌜ now (kept .exit) ≡ keptFrom n (now (cap .entry)) (now (demand .entry)) (now (withdrawn .entry)) ⌝ }
 {
     let mut sums = [0u32; 128];
-    leave(n, demand, withdrawn, kept);
+    subtract(n, demand, withdrawn, kept);
     line_sums(n, kept, &mut sums);
     share_lines(n, cap, &sums, kept);
 }

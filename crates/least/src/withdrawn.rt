@@ -32,7 +32,7 @@ pub fn withdraw(n: usize, cap: &[u32], demand: &[u32], withdrawn: &mut [u32], ma
     ensures { λ _. ⌜ Withdrew n (now (cap .entry)) (now (demand .entry)) (now (withdrawn .entry)) (now (marks .entry)) (now (withdrawn .exit)) (now (marks .exit)) ⌝ }
 {
     let lines = 2 * n;
-    let mut limits = [0u32; 128];
-    excesses(n, cap, demand, &mut limits);
-    largest(n, demand, &mut limits[..lines], withdrawn, marks);
+    let mut ceilings = [0u32; 128];
+    excesses(n, cap, demand, &mut ceilings);
+    largest(n, demand, &mut ceilings[..lines], withdrawn, marks);
 }

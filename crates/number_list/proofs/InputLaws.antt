@@ -125,9 +125,9 @@ value-lt v (x ∷ word) all =
     let most : (v * 10 + (x - 48) + 1) * 10 ^ length word ≤ ((v + 1) * 10) * 10 ^ length word = mul-le-mul-right (10 ^ length word) (omega (arith, digit-low x digit, digit-high x digit)) in
     rw (pow-suc 10 (length word)) (omega arith)
 
--- fewer than nine digits leave room for one more
-value-room : (word : List ℕ) → allDigits word ≡ true → length word < 9 → valueFrom 0 word < 100000000
-value-room word all few =
+-- fewer than nine digits leave space for one more
+value-fits : (word : List ℕ) → allDigits word ≡ true → length word < 9 → valueFrom 0 word < 100000000
+value-fits word all few =
     let most : 10 ^ length word ≤ 10 ^ 8 = pow-le-pow-right {n = 10} (omega arith) {i = length word} {j = 8} (omega arith) in
     omega (arith, value-lt 0 word all)
 
@@ -194,11 +194,11 @@ module _ (input : List ℕ) (i digits value count : ℕ) (table : List ℕ) (r :
   next : i < length input → listOf input ≡ after (r .done) (numbersOf (wordsFrom (r .word) (getD input i 0 ∷ drop (i + 1) input)))
   next lt = r .rest ∙ ap (λ l. after (r .done) (numbersOf (wordsFrom (r .word) l))) (drop-cons input i 0 lt ∙ ap (λ k. getD input i 0 ∷ drop k input) (sym (add-one i)))
 
-  pub reading-room : digits < 9 → value < 100000000
-  reading-room lt = omega (arith, r .makes, value-room (r .word) (r .all) (omega (arith, r .size)))
+  pub reading-fits : digits < 9 → value < 100000000
+  reading-fits lt = omega (arith, r .makes, value-fits (r .word) (r .all) (omega (arith, r .size)))
 
   pub reading-digit : i < length input → isDigit (getD input i 0) ≡ true → digits < 9 → Reading input (i + 1) (digits + 1) (value * 10 + (getD input i 0 - 48)) count table
-  reading-digit lt e room = record {
+  reading-digit lt e few = record {
     done = r .done;
     word = r .word ++ (getD input i 0 ∷ []);
     rest = next lt ∙ ap (λ l. after (r .done) (numbersOf l)) (words-more (r .word) (drop (i + 1) input) (getD input i 0) (digit-parts (getD input i 0) e));

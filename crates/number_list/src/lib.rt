@@ -11,6 +11,7 @@ pub enum Listed {
     Junk,
 }
 
+// Whether a byte is a digit.
 fn is_digit(b: u8) -> bool
     ensures { λ r. ⌜ r ≡ isDigit b ⌝ }
 {
@@ -20,6 +21,7 @@ fn is_digit(b: u8) -> bool
     b <= 57
 }
 
+// Whether a byte parts two numbers: a space or a line feed.
 fn is_parting(b: u8) -> bool
     ensures { λ r. ⌜ r ≡ parts b ⌝ }
 {

@@ -10,7 +10,7 @@ use Rattle.sums.specs.Sums.{sumTo, hit}
 use Rattle.sums.specs.Tables.{cell}
 use Rattle.sums.proofs.Sums.{sum-ext, sum-mono, sum-swap, sum-scale, sum-pick, sum-hit, sum-hit-most, sum-tight, hit-same, hit-other}
 use Rattle.sums.proofs.Cases.{by-eq}
-use Rattle.pairs.specs.Pairs.{allowed, taken, Paired, Full, Stuck}
+use Rattle.pairs.specs.Pairs.{allowed, partners, Paired, Full, Stuck}
 
 -- 1 for a positive number
 sign : ℕ → ℕ
@@ -54,14 +54,14 @@ module _ {n : ℕ} {may source : List ℕ} (v : List ℕ) (S : ℕ) (bound : (j 
 
   -- more destinations than sources are marked
   more-columns : sumTo n w + 1 ≤ sumTo n (λ j. w (getD source j 0))
-  unfolding sumTo taken w sign
+  unfolding sumTo partners w sign
   more-columns =
-      let each : sumTo n w ≤ sumTo n (λ a. w a * taken n source a) =
-      sum-mono n w (λ a. w a * taken n source a) (λ a ha. by-eq (k .mark a) 0
+      let each : sumTo n w ≤ sumTo n (λ a. w a * partners n source a) =
+      sum-mono n w (λ a. w a * partners n source a) (λ a ha. by-eq (k .mark a) 0
       (λ e. omega (arith, ap sign e))
       (λ ne. let one : w a ≡ 1 = sign-pos (k .mark a) (omega arith) in rw one (omega (arith, k .paired a ha (omega arith))))) in
       let last : w n ≡ 1 = ap sign (k .root) in
-      let free : w n * taken n source n ≡ taken n source n = rw last (omega arith) in
+      let free : w n * partners n source n ≡ partners n source n = rw last (omega arith) in
       omega (arith, each, free, k .free, by-rows (λ j. getD source j 0) n w bound)
 
   inside : (i j : ℕ) → i < n → j < n → w (getD source j 0) * cell n v i j ≤ w i * cell n v i j
@@ -88,9 +88,9 @@ sum-ones zero = refl
 sum-ones (suc k) = omega (arith, sum-ones k)
 
 module _ {n : ℕ} {may source destination : List ℕ} (p : Paired n may source destination) where
-  taken-once : (i : ℕ) → i < n → taken n source i ≤ 1
-  unfolding taken
-  taken-once i hi =
+  partners-once : (i : ℕ) → i < n → partners n source i ≤ 1
+  unfolding partners
+  partners-once i hi =
       let each : sumTo n (λ j. hit (getD source j 0) i) ≤ sumTo n (λ j. hit (getD destination i 0) j) =
       sum-mono n (λ j. hit (getD source j 0) i) (λ j. hit (getD destination i 0) j) (λ j hj. by-eq (getD source j 0) i
       (λ e.
@@ -99,10 +99,10 @@ module _ {n : ℕ} {may source destination : List ℕ} (p : Paired n may source 
       (λ ne. omega (arith, hit-other ne))) in
       omega (arith, each, sum-hit-most n (getD destination i 0))
 
-  pub taken-all : Full n source → (i : ℕ) → i < n → taken n source i ≡ 1
-  unfolding taken
-  taken-all f =
-      sum-tight n 1 (taken n source) taken-once
+  pub partners-all : Full n source → (i : ℕ) → i < n → partners n source i ≡ 1
+  unfolding partners
+  partners-all f =
+      sum-tight n 1 (partners n source) partners-once
       (let all : sumTo n (λ j. sumTo n (λ a. hit (getD source j 0) a)) ≡ sumTo n (λ j. 1) =
       sum-ext n (λ j. sumTo n (λ a. hit (getD source j 0) a)) (λ j. 1) (λ j hj. sum-hit n (getD source j 0) (f .all j hj)) in
       omega (arith, all, sum-ones n, sum-swap n n (λ j a. hit (getD source j 0) a)))

@@ -16,7 +16,7 @@ use Rattle.nodes.specs.Sets.{member, size, All, Without, First}
 use Rattle.nodes.proofs.Members.{member-lt}
 use Rattle.nodes.proofs.Sizes.{size-without}
 use Rattle.arrays.specs.Arrays.{Filled}
-use Rattle.pairs.specs.Pairs.{allowed, taken, Paired, Unpaired, FreeNodes, Full, Stuck, Rooms, CanMatch, Matched}
+use Rattle.pairs.specs.Pairs.{allowed, partners, Paired, Unpaired, FreeNodes, Full, Stuck, Rooms, CanMatch, Matched}
 use Rattle.pairs.specs.Ways.{Fewer, Choice, Directed, CanSearch, Shut, Searched, CanFlip, Flipped}
 
 -- ---- free nodes: all at first, and one fewer with each pair
@@ -236,9 +236,9 @@ module _ {n : ℕ} {may source destination : List ℕ} {sources destinations : �
   unfolding marks
   mark-out left a h = rw (le-ltb a n h) refl
 
-  taken-some : (u a : ℕ) → u < n → getD source u 0 ≡ a → 1 ≤ taken n source a
-  unfolding taken
-  taken-some u a hu e = omega (arith, sum-at n (λ k. hit (getD source k 0) a) u hu, hit-same e)
+  partners-some : (u a : ℕ) → u < n → getD source u 0 ≡ a → 1 ≤ partners n source a
+  unfolding partners
+  partners-some u a hu e = omega (arith, sum-at n (λ k. hit (getD source k 0) a) u hu, hit-same e)
 
   shut-stuck : n ≤ 64 → Shut n may destination destinations → (j : ℕ) → First destinations j → j < n → Stuck n may source
   shut-stuck hn k j f lt =
@@ -249,7 +249,7 @@ module _ {n : ℕ} {may source destination : List ℕ} {sources destinations : �
         root = mark-out (k .left) n (omega arith);
         paired = λ i hi pos.
             let gone : member i (k .left) ≡ 0 = omega (arith, mark-in (k .left) i hi) in
-            taken-some (getD destination i 0) i (k .paired i hi gone) (p .forth i hi (k .paired i hi gone));
+            partners-some (getD destination i 0) i (k .paired i hi gone) (p .forth i hi (k .paired i hi gone));
         closed = λ i u hi hu pos ok.
             let reached : 0 < k .rank u = by-lt (getD source u 0) n
             (λ h.
@@ -257,7 +257,7 @@ module _ {n : ℕ} {may source destination : List ℕ} {sources destinations : �
             rw (p .back u hu h) at (k .reached (getD source u 0) h gone))
             (λ h. k .roots u hu (d .free .no-source .in' u hu h)) in
             omega (arith, mark-in (k .left) i hi, k .closed i u hi hu reached ok);
-        free = taken-some j n lt free-j;
+        free = partners-some j n lt free-j;
       }
 
   pub work-end : n ≤ 64 → Shut n may destination destinations → Matched n may source destination sources destinations

@@ -12,8 +12,8 @@ unfoldable pub allowed : (may : List ℕ) (i j : ℕ) → ℕ
 allowed may i j = member i (getD may j 0)
 
 -- how many destinations are paired with source i, and for i = n how many with none
-unfoldable pub taken : (n : ℕ) (source : List ℕ) (i : ℕ) → ℕ
-taken n source i = sumTo n (λ j. hit (getD source j 0) i)
+unfoldable pub partners : (n : ℕ) (source : List ℕ) (i : ℕ) → ℕ
+partners n source i = sumTo n (λ j. hit (getD source j 0) i)
 
 -- each pair is known at both its ends, and allowed
 pub record Paired (n : ℕ) (may source destination : List ℕ) : Type 0 where
@@ -42,9 +42,9 @@ pub record Full (n : ℕ) (source : List ℕ) : Type 0 where
 pub record Stuck (n : ℕ) (may source : List ℕ) : Type 0 where
   pub mark : ℕ → ℕ
   pub root : mark n ≡ 1
-  pub paired : (i : ℕ) → i < n → 0 < mark i → 1 ≤ taken n source i
+  pub paired : (i : ℕ) → i < n → 0 < mark i → 1 ≤ partners n source i
   pub closed : (i j : ℕ) → i < n → j < n → 0 < mark (getD source j 0) → allowed may i j ≡ 1 → 0 < mark i
-  pub free : 1 ≤ taken n source n
+  pub free : 1 ≤ partners n source n
 
 -- the lists are long enough
 pub record Rooms (n : ℕ) (may source destination : List ℕ) : Type 0 where

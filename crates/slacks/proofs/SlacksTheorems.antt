@@ -16,7 +16,7 @@ use Rattle.slacks.specs.Slacks.{slacksVerdict, slacksAfter, SlacksResult
 use Rattle.slacks.specs.Theorems.{SlacksTheorems}
 use Rattle.slacks.proofs.SlackLaws.{slacks-fits}
 
--- numbers in their ranges, tables that are long enough and no demand above the limit
+-- numbers in their ranges, tables that are long enough and no demand above 65,535
 plainly : (n l : ℕ) (d : List ℕ) (room : ℕ) → 1 ≤ n → n ≤ 64 → 1 ≤ l → l ≤ 1024 → n * n ≤ length d → 2 * n ≤ room → ((p : ℕ) → p < n * n → getD d p 0 ≤ 65535) → Accepted ≡ slacksVerdict n l d room
 unfolding slacksVerdict
 plainly n l d room a b c e cells lines most =

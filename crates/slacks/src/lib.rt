@@ -14,7 +14,7 @@ ghost use Rattle.star.specs.Lines.{slack};
 ghost use Rattle.slacks.specs.Slacks.{slacksVerdict, SlacksResult};
 
 // Writes the slack of each line, given the capacity of each: first the sums of all lines are made.
-fn fill(n: usize, cap: &[u32], demand: &[u32], table: &mut [i32])
+fn write_slacks(n: usize, cap: &[u32], demand: &[u32], table: &mut [i32])
     requires { ⌜ (Square n (now demand)) × (Demands n (now demand)) ⌝ }
     requires { ⌜ (Capacities n (now cap)) × (2 * n ≤ length (now table)) ⌝ }
     ensures { λ _. ⌜ now (table .exit) ≡ written (2 * n) (tab (2 * n) (slack n (now (cap .entry)) (now (demand .entry)))) (now (table .entry)) ⌝ }
@@ -69,6 +69,6 @@ pub fn slacks(nodes: u32, slots: u32, demand: &[u32], table: &mut [i32]) -> Verd
     let n = nodes as usize;
     let cap = [slots; 128];
     let lines = 2 * n;
-    fill(n, &cap[..lines], demand, table);
+    write_slacks(n, &cap[..lines], demand, table);
     v
 }

@@ -156,7 +156,7 @@ module _ {n l : ℕ} {kept schedule : List ℕ} (c : CanPlace n l kept schedule)
 
   module _ {table : List ℕ} {r : ℕ} (p : Padded n kept table r) where
     pub place-most : r ≤ l
-    place-most = p .least l (λ ℓ hl. omega (arith, c .admissible .lines ℓ hl, capacity n l ℓ hl))
+    place-most = p .tight l (λ ℓ hl. omega (arith, c .admissible .lines ℓ hl, capacity n l ℓ hl))
 
     pub place-none : Placed n r 0 table schedule
     unfolding count

@@ -18,7 +18,7 @@ use Rattle.arrays.proofs.Stores.{beyond-kept, beyond-more}
 use Rattle.changes.specs.Changes.{changeAt}
 use Rattle.changes.proofs.ChangeLaws.{changes-more, change-most}
 use Rattle.holds.specs.Holds.{Next}
-use Rattle.slots.specs.Writing.{Wrote, Extended}
+use Rattle.slots.specs.Writing.{WroteSlots, Extended}
 use Rattle.slots.specs.Rounds.{Placed}
 
 -- ---- the destinations below j of slot k are written
@@ -43,7 +43,7 @@ write-step {n} {s} {u} {bytes} {k} {j} {b} f hj eb g = record {
   beyond = beyond-kept n (k + 1) k j b u (omega arith) hj ∙ g .beyond;
 }
 
-pub write-end : {n : ℕ} {s u bytes : List ℕ} {k j : ℕ} → Writing n s u bytes k j → n ≤ j → Wrote n s u bytes k (k + 1)
+pub write-end : {n : ℕ} {s u bytes : List ℕ} {k j : ℕ} → Writing n s u bytes k j → n ≤ j → WroteSlots n s u bytes k (k + 1)
 write-end {k = k} g le = record {
   new = λ m v lo hi hv.
       let e : m ≡ k = omega arith in
@@ -57,7 +57,7 @@ pub record Filling (n : ℕ) (s u bytes : List ℕ) (from to k : ℕ) : Type 0 w
   pub from-le : from ≤ k
   pub upto : k ≤ to
   pub len : length u ≡ length s
-  pub wrote : Wrote n s u bytes from k
+  pub wrote : WroteSlots n s u bytes from k
 
 pub fill-start : (n : ℕ) (s bytes : List ℕ) (from to : ℕ) → from ≤ to → Filling n s s bytes from to from
 fill-start n s bytes from to le = record {
@@ -67,7 +67,7 @@ fill-start n s bytes from to le = record {
   wrote = record { new = λ m v lo hi hv. absurd (omega arith); old = λ m v hm hv. refl; beyond = refl };
 }
 
-pub fill-step : {n : ℕ} {s u w bytes : List ℕ} {from to k : ℕ} → k < to → length w ≡ length u → Filling n s u bytes from to k → Wrote n u w bytes k (k + 1) → Filling n s w bytes from to (k + 1)
+pub fill-step : {n : ℕ} {s u w bytes : List ℕ} {from to k : ℕ} → k < to → length w ≡ length u → Filling n s u bytes from to k → WroteSlots n u w bytes k (k + 1) → Filling n s w bytes from to (k + 1)
 fill-step {n = n} {s = s} {u = u} {k = k} lt e g b = record {
   from-le = omega (arith, g .from-le);
   upto = omega arith;
@@ -81,11 +81,11 @@ fill-step {n = n} {s = s} {u = u} {k = k} lt e g b = record {
   };
 }
 
-pub fill-end : {n : ℕ} {s u bytes : List ℕ} {from to k : ℕ} → Filling n s u bytes from to k → to ≤ k → Wrote n s u bytes from to
+pub fill-end : {n : ℕ} {s u bytes : List ℕ} {from to k : ℕ} → Filling n s u bytes from to k → to ≤ k → WroteSlots n s u bytes from to
 fill-end {to = to} {k = k} g le = let e : k ≡ to = omega (arith, g .upto) in rw e at (g .wrote)
 
 -- ---- a run of equal slots more
-module _ {n : ℕ} {s u bytes : List ℕ} {t : ℕ} (h : ℕ) (w : Wrote n s u bytes t (t + h)) where
+module _ {n : ℕ} {s u bytes : List ℕ} {t : ℕ} (h : ℕ) (w : WroteSlots n s u bytes t (t + h)) where
   pub count-more : (i j : ℕ) → j < n → count n (t + h) u i j ≡ count n t s i j + h * hit (getD bytes j 0) i
   unfolding count
   count-more i j hj =
@@ -108,7 +108,7 @@ module _ {n : ℕ} {s u bytes : List ℕ} {t : ℕ} (h : ℕ) (w : Wrote n s u b
     }
 
 -- what was placed up to slot t is placed up to t + h
-pub placed-more : {n r t left h : ℕ} {table table' bytes s u : List ℕ} → Next n table table' bytes left h → Wrote n s u bytes t (t + h) → Placed n r t table s → Placed n r (t + h) table' u
+pub placed-more : {n r t left h : ℕ} {table table' bytes s u : List ℕ} → Next n table table' bytes left h → WroteSlots n s u bytes t (t + h) → Placed n r t table s → Placed n r (t + h) table' u
 placed-more {n} {h = h} d w g = record {
   lines = λ ℓ hl. omega (arith, d .lines ℓ hl, g .lines ℓ hl);
   counts = λ i j hi hj. omega (arith, g .counts i j hi hj, d .dues i j hi hj, count-more h w i j hj, ap (λ (x : List ℕ). cell n x i j) (d .kept));
@@ -116,7 +116,7 @@ placed-more {n} {h = h} d w g = record {
 }
 
 -- ---- a setting in the slots that come next
-pub extended : {n : ℕ} {s u setting : List ℕ} {from to more : ℕ} → from < to → more ≡ changeAt n s from setting → Wrote n s u setting from to → Extended n s u setting from to more
+pub extended : {n : ℕ} {s u setting : List ℕ} {from to more : ℕ} → from < to → more ≡ changeAt n s from setting → WroteSlots n s u setting from to → Extended n s u setting from to more
 extended {n} {s} {u} {setting} {from} {to} lt e w =
     let far : from + (to - from) ≡ to = omega arith in
     let added : reconfigurations n (from + (to - from)) u ≡ reconfigurations n from s + changeAt n s from setting =

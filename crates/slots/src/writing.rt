@@ -4,12 +4,12 @@ use arrays::lists;
 ghost use Prim.Native.Nat.{_+_, _<_, _≤_};
 ghost use lib.ListN.{length};
 ghost use Rattle.arrays.specs.Arrays.{Frame, Slot};
-ghost use Rattle.slots.specs.Writing.{Wrote, Extended};
+ghost use Rattle.slots.specs.Writing.{WroteSlots, Extended};
 
 // Writes the bytes into slot k.
 fn write_slot(n: usize, schedule: &mut [u8], bytes: &[u8], k: usize)
     requires { ⌜ (n ≤ 64) × (Slot n (now schedule) k) × (n ≤ length (now bytes)) ⌝ }
-    ensures { λ _. ⌜ Wrote n (now (schedule .entry)) (now (schedule .exit)) (now (bytes .entry)) k (k + 1) ⌝ }
+    ensures { λ _. ⌜ WroteSlots n (now (schedule .entry)) (now (schedule .exit)) (now (bytes .entry)) k (k + 1) ⌝ }
 {
     let mut j = 0;
     while j < n {
@@ -19,10 +19,10 @@ fn write_slot(n: usize, schedule: &mut [u8], bytes: &[u8], k: usize)
 }
 
 // Writes the bytes into the slots from `from` up to `to`.
-fn write(n: usize, schedule: &mut [u8], bytes: &[u8], from: usize, to: usize)
+fn write_slots(n: usize, schedule: &mut [u8], bytes: &[u8], from: usize, to: usize)
     requires { ⌜ Frame n to (now schedule) ⌝ }
     requires { ⌜ (n ≤ length (now bytes)) × (from ≤ to) ⌝ }
-    ensures { λ _. ⌜ Wrote n (now (schedule .entry)) (now (schedule .exit)) (now (bytes .entry)) from to ⌝ }
+    ensures { λ _. ⌜ WroteSlots n (now (schedule .entry)) (now (schedule .exit)) (now (bytes .entry)) from to ⌝ }
 {
     let mut k = from;
     while k < to {
@@ -38,6 +38,6 @@ pub fn extend(n: usize, schedule: &mut [u8], setting: &[u8], from: usize, to: us
     ensures { λ more. ⌜ Extended n (now (schedule .entry)) (now (schedule .exit)) (now (setting .entry)) from to more ⌝ }
 {
     let more = changes::change(n, schedule, from, setting);
-    write(n, schedule, setting, from, to);
+    write_slots(n, schedule, setting, from, to);
     more
 }

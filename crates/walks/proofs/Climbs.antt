@@ -1,6 +1,6 @@
 -- A path is found node by node, from its end up. A node that leads no further leaves its layer, and on layers of which each node was reached from the
 -- layer before none does. Assumes nothing.
-use Prim.Native.Nat.{ℕ, _+_, _*_, _≤_, _<_}
+use Prim.Native.Nat.{ℕ, _+_, _≤_, _<_}
 use native.Mathlib.Omega.{arith}
 use mathlib.Core.Path.{_≡_, refl, sym, _∙_, ap}
 use mathlib.Core.Bool.{true, false, false≢true}
@@ -10,8 +10,8 @@ use lib.Seq.{getD-set-same, getD-set-other}
 use Rattle.sums.proofs.Cases.{by-eq}
 use Rattle.nodes.specs.Sets.{member, Both, First}
 use Rattle.nodes.proofs.SetLaws.{both-in, both-left, both-right}
-use Rattle.layers.specs.Layers.{Layered, Apart}
-use Rattle.walks.specs.Paths.{Path, Follows, weight, FirstInBoth, Left, Thinned, CanClimb, Climbed}
+use Rattle.layers.specs.Layers.{Layered}
+use Rattle.walks.specs.Paths.{weight, FirstInBoth, LeftLayer, Thinned, CanClimb, Climbed}
 use Rattle.walks.proofs.Thinning.{left-else, left-len, row-leaves, column-leaves, thinned-none, thinned-row, thinned-column, thinned-weight, thinned-apart}
 
 -- the first node of what two sets have in common
@@ -99,8 +99,8 @@ pub record Climb (n : ℕ) (offers takers rows₀ columns₀ at₀ to₀ rows co
 -- another list of the same length for the columns of the path
 pub climb-lists : {n : ℕ} {offers takers rows columns at to to' : List ℕ} {e last : ℕ} → CanClimb n offers takers rows columns at to e last → length to' ≡ length to → CanClimb n offers takers rows columns at to' e last
 climb-lists P len = record {
-  offered = P .offered;
-  taken = P .taken;
+  offers-room = P .offers-room;
+  takers-room = P .takers-room;
   lists = record { layers = P .lists .layers; ats = P .lists .ats; tos = omega (arith, P .lists .tos); few = P .lists .few };
   apart = P .apart;
   column = P .column;
@@ -154,7 +154,7 @@ module _ {n : ℕ} {offers takers rows₀ columns₀ at₀ to₀ rows columns at
 
   module _ {i : ℕ} (F : FirstInBoth (getD offers (getD to k 0) 0) (getD rows k 0) i) where
     -- ---- a column without a row
-    module _ (none : n ≤ i) {columns' : List ℕ} (G : Left columns columns' k (getD to k 0)) where
+    module _ (none : n ≤ i) {columns' : List ℕ} (G : LeftLayer columns columns' k (getD to k 0)) where
       no-row : Layered n offers takers rows₀ columns₀ last → ⊥
       no-row L =
           let s = C .fresh L in
@@ -220,7 +220,7 @@ module _ {n : ℕ} {offers takers rows₀ columns₀ at₀ to₀ rows columns at
 
       module _ {g : ℕ} (p : ℕ) (up : p + 1 ≡ k) (H : FirstInBoth (getD takers i 0) (getD columns p 0) g) where
         -- it takes from no column of the layer above
-        module _ (none : n ≤ g) {rows' : List ℕ} (G : Left rows rows' k i) where
+        module _ (none : n ≤ g) {rows' : List ℕ} (G : LeftLayer rows rows' k i) where
           no-column : Layered n offers takers rows₀ columns₀ last → ⊥
           no-column L =
               let s = C .fresh L in

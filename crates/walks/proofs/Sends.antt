@@ -13,7 +13,7 @@ use Rattle.star.proofs.StoreLaws.{store-here}
 use Rattle.growth.specs.Growth.{only}
 use Rattle.growth.specs.Sides.{Sides, CanMore, CanLess, More, Less}
 use Rattle.growth.proofs.Giving.{more-sums, less-sums}
-use Rattle.walks.specs.Paths.{Path, Follows, Passes, CanCarry, Carried, CanSend, Sent}
+use Rattle.walks.specs.Paths.{Path, Follows, Passes, Passable, Bottleneck, CanSend, Sent}
 
 -- ---- how much can go
 -- where the sets are right at least 1 can go along a path that follows them
@@ -30,17 +30,17 @@ follows-passes {at = at} {to = to} S P F = record {
 }
 
 -- x is what the steps after layer k can take
-pub record Narrowing (n : ℕ) (bound a room at to : List ℕ) (e last x k : ℕ) : Type 0 where
+pub record Narrowing (n : ℕ) (bound a headroom at to : List ℕ) (e last x k : ℕ) : Type 0 where
   pub upto : k ≤ last
   pub some : 0 < x
-  pub ending : x ≤ getD room (n + e) 0
+  pub ending : x ≤ getD headroom (n + e) 0
   pub more : (m : ℕ) → k < m → m ≤ last → cell n a (getD at m 0) (getD to m 0) + x ≤ cell n bound (getD at m 0) (getD to m 0)
   pub less : (m : ℕ) → k ≤ m → m < last → x ≤ cell n a (getD at (m + 1) 0) (getD to m 0)
 
-pub narrow-start : {n : ℕ} {bound a room at to : List ℕ} {e last : ℕ} → CanCarry n bound a room at to e last → Narrowing n bound a room at to e last (getD room (n + e) 0) last
+pub narrow-start : {n : ℕ} {bound a headroom at to : List ℕ} {e last : ℕ} → Passable n bound a headroom at to e last → Narrowing n bound a headroom at to e last (getD headroom (n + e) 0) last
 narrow-start P = record { upto = omega arith; some = P .ending; ending = omega arith; more = λ m q r. absurd (omega arith); less = λ m q r. absurd (omega arith) }
 
-module _ {n : ℕ} {bound a room at to : List ℕ} {e last x k : ℕ} (P : CanCarry n bound a room at to e last) (N : Narrowing n bound a room at to e last x k) {y : ℕ} (Y : y ≡ min x (cell n bound (getD at k 0) (getD to k 0) - cell n a (getD at k 0) (getD to k 0))) where
+module _ {n : ℕ} {bound a headroom at to : List ℕ} {e last x k : ℕ} (P : Passable n bound a headroom at to e last) (N : Narrowing n bound a headroom at to e last x k) {y : ℕ} (Y : y ≡ min x (cell n bound (getD at k 0) (getD to k 0) - cell n a (getD at k 0) (getD to k 0))) where
   narrow-more : (m : ℕ) → k ≤ m → m ≤ last → cell n a (getD at m 0) (getD to m 0) + y ≤ cell n bound (getD at m 0) (getD to m 0)
   narrow-more m q r =
       by-eq m k
@@ -50,7 +50,7 @@ module _ {n : ℕ} {bound a room at to : List ℕ} {e last x k : ℕ} (P : CanCa
   narrow-some : 0 < y
   narrow-some = omega (arith, N .some, P .passes .more k (N .upto))
 
-  pub narrow-step : (p : ℕ) → p + 1 ≡ k → {z : ℕ} → z ≡ min y (cell n a (getD at k 0) (getD to p 0)) → Narrowing n bound a room at to e last z p
+  pub narrow-step : (p : ℕ) → p + 1 ≡ k → {z : ℕ} → z ≡ min y (cell n a (getD at k 0) (getD to p 0)) → Narrowing n bound a headroom at to e last z p
   narrow-step p up {z} Z =
       let u = N .upto in
       let one : 1 ≤ cell n a (getD at k 0) (getD to p 0) = rw up at (P .passes .less p (omega arith)) in
@@ -64,9 +64,9 @@ module _ {n : ℕ} {bound a room at to : List ℕ} {e last x k : ℕ} (P : CanCa
             (λ s. omega (arith, N .less m (omega arith) r));
       }
 
-  pub narrow-end : k ≡ 0 → {r : ℕ} → r ≡ min y (getD room (getD at k 0) 0) → Carried n bound a room at to e last r
+  pub narrow-end : k ≡ 0 → {r : ℕ} → r ≡ min y (getD headroom (getD at k 0) 0) → Bottleneck n bound a headroom at to e last r
   narrow-end zero {r} R =
-      let first : getD room (getD at k 0) 0 ≡ getD room (getD at 0 0) 0 = ap (λ u. getD room (getD at u 0) 0) zero in
+      let first : getD headroom (getD at k 0) 0 ≡ getD headroom (getD at 0 0) 0 = ap (λ u. getD headroom (getD at u 0) 0) zero in
       record {
         some = omega (arith, narrow-some, P .start);
         passes = record {

@@ -11,10 +11,10 @@ use Rattle.nodes.specs.Sets.{member, size}
 use Rattle.nodes.proofs.Members.{member-lt}
 use Rattle.nodes.proofs.Sizes.{size-without}
 use Rattle.layers.specs.Layers.{Apart}
-use Rattle.walks.specs.Paths.{weight, Left, Thinned}
+use Rattle.walks.specs.Paths.{weight, LeftLayer, Thinned}
 
 -- ---- node i leaves layer k
-module _ {layers layers' : List ℕ} {k i : ℕ} (fits : k < length layers) (L : Left layers layers' k i) where
+module _ {layers layers' : List ℕ} {k i : ℕ} (fits : k < length layers) (L : LeftLayer layers layers' k i) where
   -- the layer that it leaves, and the others
   left-here : getD layers' k 0 ≡ L .rest
   left-here = ap (λ l. getD l k 0) (L .cells) ∙ getD-set-same layers k (L .rest) 0 fits
@@ -43,7 +43,7 @@ module _ {layers layers' : List ℕ} {k i : ℕ} (fits : k < length layers) (L :
   left-size n lt e = omega (arith, ap (size n) left-here, size-without n (getD layers k 0) (L .rest) i lt e (L .without))
 
 -- ---- how many nodes the layers have
-pub row-leaves : {k i last : ℕ} {rows rows' : List ℕ} (n : ℕ) (columns : List ℕ) → k ≤ last → i < n → k < length rows → member i (getD rows k 0) ≡ 1 → Left rows rows' k i → weight n rows' columns last < weight n rows columns last
+pub row-leaves : {k i last : ℕ} {rows rows' : List ℕ} (n : ℕ) (columns : List ℕ) → k ≤ last → i < n → k < length rows → member i (getD rows k 0) ≡ 1 → LeftLayer rows rows' k i → weight n rows' columns last < weight n rows columns last
 unfolding weight
 row-leaves {k} {last = last} {rows = rows} {rows' = rows'} n columns le lt fits e L =
     omega (
@@ -53,7 +53,7 @@ row-leaves {k} {last = last} {rows = rows} {rows' = rows'} n columns le lt fits 
           (λ m p ne. ap (λ z. size n z + size n (getD columns m 0)) (left-else fits L m ne)),
     )
 
-pub column-leaves : {k j last : ℕ} {columns columns' : List ℕ} (n : ℕ) (rows : List ℕ) → k ≤ last → j < n → k < length columns → member j (getD columns k 0) ≡ 1 → Left columns columns' k j → weight n rows columns' last < weight n rows columns last
+pub column-leaves : {k j last : ℕ} {columns columns' : List ℕ} (n : ℕ) (rows : List ℕ) → k ≤ last → j < n → k < length columns → member j (getD columns k 0) ≡ 1 → LeftLayer columns columns' k j → weight n rows columns' last < weight n rows columns last
 unfolding weight
 column-leaves {k} {last = last} {columns = columns} {columns' = columns'} n rows le lt fits e L =
     omega (
@@ -79,10 +79,10 @@ pub thinned-join : {rows columns rows₁ columns₁ rows₂ columns₂ : List �
 thinned-join T U = record { row = λ k i e. T .row k i (U .row k i e); column = λ k j e. T .column k j (U .column k j e) }
 
 module _ {rows columns rows' columns' : List ℕ} (T : Thinned rows columns rows' columns') where
-  pub thinned-row : {k i : ℕ} {rows'' : List ℕ} → k < length rows' → Left rows' rows'' k i → Thinned rows columns rows'' columns'
+  pub thinned-row : {k i : ℕ} {rows'' : List ℕ} → k < length rows' → LeftLayer rows' rows'' k i → Thinned rows columns rows'' columns'
   thinned-row fits L = record { row = λ m j e. T .row m j (left-had fits L m j e); column = T .column }
 
-  pub thinned-column : {k j : ℕ} {columns'' : List ℕ} → k < length columns' → Left columns' columns'' k j → Thinned rows columns rows' columns''
+  pub thinned-column : {k j : ℕ} {columns'' : List ℕ} → k < length columns' → LeftLayer columns' columns'' k j → Thinned rows columns rows' columns''
   thinned-column fits L = record { row = T .row; column = λ m i e. T .column m i (left-had fits L m i e) }
 
   pub thinned-weight : (n last : ℕ) → weight n rows' columns' last ≤ weight n rows columns last

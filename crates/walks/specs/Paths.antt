@@ -50,7 +50,7 @@ pub record FirstInBoth (s t r : ℕ) : Type 0 where
   pub before : (j : ℕ) → j < r → member j s ≡ 1 → member j t ≡ 1 → ⊥
 
 -- node i has left layer k
-pub record Left (layers layers' : List ℕ) (k i : ℕ) : Type 0 where
+pub record LeftLayer (layers layers' : List ℕ) (k i : ℕ) : Type 0 where
   pub rest : ℕ
   pub without : Without (getD layers k 0) i rest
   pub cells : layers' ≡ set layers k rest
@@ -61,8 +61,8 @@ pub record Thinned (rows columns rows' columns' : List ℕ) : Type 0 where
   pub column : (k j : ℕ) → member j (getD columns' k 0) ≡ 1 → member j (getD columns k 0) ≡ 1
 
 pub record CanClimb (n : ℕ) (offers takers rows columns at to : List ℕ) (e last : ℕ) : Type 0 where
-  pub offered : n ≤ length offers
-  pub taken : n ≤ length takers
+  pub offers-room : n ≤ length offers
+  pub takers-room : n ≤ length takers
   pub lists : PathLists n rows columns at to last
   pub apart : Apart n columns last
   pub column : e < n
@@ -79,22 +79,22 @@ pub record Climbed (n : ℕ) (offers takers rows columns rows' columns' at' to' 
 
 -- ---- what goes along one
 -- at least 1 can go along the path
-pub record CanCarry (n : ℕ) (bound a room at to : List ℕ) (e last : ℕ) : Type 0 where
+pub record Passable (n : ℕ) (bound a headroom at to : List ℕ) (e last : ℕ) : Type 0 where
   pub below : Below n bound a
   pub path : Path n at to e last
   pub passes : Passes n bound a at to last 1
-  pub rooms : 2 * n ≤ length room
-  pub start : 0 < getD room (getD at 0 0) 0
-  pub ending : 0 < getD room (n + e) 0
+  pub headrooms : 2 * n ≤ length headroom
+  pub start : 0 < getD headroom (getD at 0 0) 0
+  pub ending : 0 < getD headroom (n + e) 0
   pub ats : last < length at
   pub tos : last < length to
 
--- x can, and both ends have room for it
-pub record Carried (n : ℕ) (bound a room at to : List ℕ) (e last x : ℕ) : Type 0 where
+-- x can, and both ends have headroom for it
+pub record Bottleneck (n : ℕ) (bound a headroom at to : List ℕ) (e last x : ℕ) : Type 0 where
   pub some : 0 < x
   pub passes : Passes n bound a at to last x
-  pub start : x ≤ getD room (getD at 0 0) 0
-  pub ending : x ≤ getD room (n + e) 0
+  pub start : x ≤ getD headroom (getD at 0 0) 0
+  pub ending : x ≤ getD headroom (n + e) 0
 
 pub record CanSend (n : ℕ) (bound a offers takers at to : List ℕ) (e last x : ℕ) : Type 0 where
   pub sides : Sides n bound a offers takers

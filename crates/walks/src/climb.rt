@@ -2,7 +2,7 @@
 use arrays::lists;
 ghost use Prim.Native.Nat.{_<_};
 ghost use lib.ListN.{length, getD};
-ghost use Rattle.walks.specs.Paths.{FirstInBoth, Left, CanClimb, Climbed};
+ghost use Rattle.walks.specs.Paths.{FirstInBoth, LeftLayer, CanClimb, Climbed};
 
 // The first node that is in a node's own set and in a layer, or 64.
 fn meeting(list: &[u64], node: usize, layers: &[u64], k: usize) -> usize
@@ -15,7 +15,7 @@ fn meeting(list: &[u64], node: usize, layers: &[u64], k: usize) -> usize
 // Node i leaves layer k.
 pub fn leave(layers: &mut [u64], k: usize, i: usize)
     requires { ⌜ (k < length (now layers)) × (i < 64) ⌝ }
-    ensures { λ _. ⌜ Left (now (layers .entry)) (now (layers .exit)) k i ⌝ }
+    ensures { λ _. ⌜ LeftLayer (now (layers .entry)) (now (layers .exit)) k i ⌝ }
 {
     lists::put_set(layers, k, nodes::without(lists::set_at(layers, k), i));
 }

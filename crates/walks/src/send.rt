@@ -4,30 +4,30 @@ use growth::sides::less;
 use growth::sides::more;
 use star::numbers::smaller;
 use star::tables::get;
-ghost use Rattle.walks.specs.Paths.{CanCarry, Carried, CanSend, Sent};
+ghost use Rattle.walks.specs.Paths.{Passable, Bottleneck, CanSend, Sent};
 
-// The most that can go the whole path: what each of its steps can take, and the room at both ends.
+// The most that can go the whole path: what each of its steps can take, and the headroom at both ends.
 pub fn bottleneck(
     n: usize,
     bound: &[u32],
     a: &[u32],
-    room: &[u32],
+    headroom: &[u32],
     at: &[u8],
     to: &[u8],
     e: usize,
     last: usize,
 ) -> u32
-    requires { ⌜ CanCarry n (now bound) (now a) (now room) (now at) (now to) e last ⌝ }
-    ensures { λ r. ⌜ Carried n (now (bound .entry)) (now (a .entry)) (now (room .entry)) (now (at .entry)) (now (to .entry)) e last r ⌝ }
+    requires { ⌜ Passable n (now bound) (now a) (now headroom) (now at) (now to) e last ⌝ }
+    ensures { λ r. ⌜ Bottleneck n (now (bound .entry)) (now (a .entry)) (now (headroom .entry)) (now (at .entry)) (now (to .entry)) e last r ⌝ }
 {
-    let mut x = room[n + e];
+    let mut x = headroom[n + e];
     let mut k = last;
     loop {
         let i = lists::byte(at, k);
         let j = lists::byte(to, k);
         x = smaller(x, get(n, bound, i, j) - get(n, a, i, j));
         if k == 0 {
-            return smaller(x, room[i]);
+            return smaller(x, headroom[i]);
         }
         k -= 1;
         x = smaller(x, get(n, a, i, lists::byte(to, k)));

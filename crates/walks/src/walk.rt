@@ -19,10 +19,10 @@ fn leave_if_none(layers: &mut [u64], k: usize, i: usize, left: u32)
     leave(layers, k, i);
 }
 
-// Row i of the first layer and column j of the last have x less room. What has none left leaves its layer.
+// Row i of the first layer and column j of the last have x less headroom. What has none left leaves its layer.
 fn spend(
     n: usize,
-    room: &mut [u32],
+    headroom: &mut [u32],
     rows: &mut [u64],
     columns: &mut [u64],
     i: usize,
@@ -30,13 +30,13 @@ fn spend(
     last: usize,
     x: u32,
 )
-    requires { ⌜ CanSpend n (now room) (now rows) (now columns) i j last x ⌝ }
-    ensures { λ _. ⌜ Spent n (now (room .entry)) (now (rows .entry)) (now (columns .entry)) (now (room .exit)) (now (rows .exit)) (now (columns .exit)) i j last x ⌝ }
+    requires { ⌜ CanSpend n (now headroom) (now rows) (now columns) i j last x ⌝ }
+    ensures { λ _. ⌜ Spent n (now (headroom .entry)) (now (rows .entry)) (now (columns .entry)) (now (headroom .exit)) (now (rows .exit)) (now (columns .exit)) i j last x ⌝ }
 {
-    room[i] -= x;
-    room[n + j] -= x;
-    leave_if_none(rows, 0, i, room[i]);
-    leave_if_none(columns, last, j, room[n + j]);
+    headroom[i] -= x;
+    headroom[n + j] -= x;
+    leave_if_none(rows, 0, i, headroom[i]);
+    leave_if_none(columns, last, j, headroom[n + j]);
 }
 
 // Until the last layer has no column left: sends what can go along one path to a column of it; one to which no path leads has left.
@@ -44,7 +44,7 @@ pub fn drain(
     n: usize,
     bound: &[u32],
     a: &mut [u32],
-    room: &mut [u32],
+    headroom: &mut [u32],
     offers: &mut [u64],
     takers: &mut [u64],
     rows: &mut [u64],
@@ -53,8 +53,8 @@ pub fn drain(
     to: &mut [u8],
     last: usize,
 )
-    requires { ⌜ CanDrain n (now bound) (now a) (now room) (now offers) (now takers) (now rows) (now columns) (now at) (now to) last ⌝ }
-    ensures { λ _. ⌜ Drained n (now (bound .entry)) (now (a .entry)) (now (room .entry)) (now (a .exit)) (now (room .exit)) (now (offers .exit)) (now (takers .exit)) ⌝ }
+    requires { ⌜ CanDrain n (now bound) (now a) (now headroom) (now offers) (now takers) (now rows) (now columns) (now at) (now to) last ⌝ }
+    ensures { λ _. ⌜ Drained n (now (bound .entry)) (now (a .entry)) (now (headroom .entry)) (now (a .exit)) (now (headroom .exit)) (now (offers .exit)) (now (takers .exit)) ⌝ }
 {
     loop {
         let e = nodes::first(lists::set_at(columns, last));
@@ -64,8 +64,8 @@ pub fn drain(
         if !climb(n, offers, takers, rows, columns, at, to, e, last) {
             continue;
         }
-        let x = bottleneck(n, bound, a, room, at, to, e, last);
+        let x = bottleneck(n, bound, a, headroom, at, to, e, last);
         send(n, bound, a, offers, takers, at, to, e, last, x);
-        spend(n, room, rows, columns, lists::byte(at, 0), e, last, x);
+        spend(n, headroom, rows, columns, lists::byte(at, 0), e, last, x);
     }
 }

@@ -7,10 +7,10 @@ use Rattle.at_least.proofs.add_row.Statement.{statement}
 use Rattle.at_least.proofs.add_row.Tie as tie
 
 abbrev Inv-loop : tie.InvT-loop
-Inv-loop n table least half₀ i bit j₀ half j = RowJoining n table least half₀ half i bit j
+Inv-loop n table threshold half₀ i bit j₀ half j = RowJoining n table threshold half₀ half i bit j
 
 abbrev μ-loop : tie.MeasureT-loop
-μ-loop n table least half₀ i bit j₀ half j = n - j
+μ-loop n table threshold half₀ i bit j₀ half j = n - j
 
 loop-holds : tie.Need-loop-holds Inv-loop μ-loop
 loop-holds c = row-start _ _ _ _ _ _
@@ -40,7 +40,7 @@ loop-less : tie.Need-loop-less Inv-loop μ-loop
 loop-less c = omega arith
 
 loop-again : tie.Need-loop-again Inv-loop μ-loop
-loop-again c = row-step (c .before .before .before .before .before .before .before .pre .1) (c .before .before .before .before .loop .inv) (c .before .before .before .loop-test .taken) _ (λ e. omega (arith, c .before .before .get .ensures, leb-true (c .before .before .before .before .before .before .before .args .least) _ e)) (λ e. omega (arith, c .before .before .get .ensures, leb-false (c .before .before .before .before .before .before .before .args .least) _ e)) (c .half-with-where .ensures)
+loop-again c = row-step (c .before .before .before .before .before .before .before .pre .1) (c .before .before .before .before .loop .inv) (c .before .before .before .loop-test .taken) _ (λ e. omega (arith, c .before .before .get .ensures, leb-true (c .before .before .before .before .before .before .before .args .threshold) _ e)) (λ e. omega (arith, c .before .before .get .ensures, leb-false (c .before .before .before .before .before .before .before .args .threshold) _ e)) (c .half-with-where .ensures)
 
 same-length : tie.Need-same-length Inv-loop μ-loop
 same-length c = c .before .loop .inv .len

@@ -6,10 +6,10 @@ use Rattle.at_least.proofs.add_rows.Statement.{statement}
 use Rattle.at_least.proofs.add_rows.Tie as tie
 
 abbrev Inv-loop : tie.InvT-loop
-Inv-loop n table least half₀ from to i₀ half i = Adding n table least half₀ half from to i
+Inv-loop n table threshold half₀ from to i₀ half i = Adding n table threshold half₀ half from to i
 
 abbrev μ-loop : tie.MeasureT-loop
-μ-loop n table least half₀ from to i₀ half i = to - i
+μ-loop n table threshold half₀ from to i₀ half i = to - i
 
 loop-holds : tie.Need-loop-holds Inv-loop μ-loop
 loop-holds c = add-start _ _ (c .before .before .pre .1)

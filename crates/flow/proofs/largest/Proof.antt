@@ -17,7 +17,7 @@ slice-relend-prefix-largest-on : tie.Need-slice-relend-prefix-largest-on
 slice-relend-prefix-largest-on c = search needs
 
 slice-aggregate-largest-on : tie.Need-slice-aggregate-largest-on
-slice-aggregate-largest-on c = sym (length-take-le _ (c .before .before .before .before .before .args .room .now) (c .before .before .before .before .before .pre .limits))
+slice-aggregate-largest-on c = sym (length-take-le _ (c .before .before .before .before .before .args .headroom .now) (c .before .before .before .before .before .pre .ceilings))
 
 slice-relend-prefix-largest-on-2 : tie.Need-slice-relend-prefix-largest-on-2
 slice-relend-prefix-largest-on-2 c = search needs
@@ -38,7 +38,7 @@ largest-on-requires c κs = let asked = c .before .before .before .before .befor
       bounds = asked .bounds;
       demands = asked .demands;
       cells = record { nodes = asked .cells .nodes; cells = le-of-eq (sym (length-take-le _ (args .a .now) (asked .cells .cells))) };
-      limits = le-of-eq (sym (length-take-le _ (args .room .now) (asked .limits)));
+      ceilings = le-of-eq (sym (length-take-le _ (args .headroom .now) (asked .ceilings)));
       lines = le-of-eq (sym (length-take-le _ (args .marks .now) (asked .lines)));
     }
 
@@ -55,10 +55,10 @@ returns : tie.Need-returns
 returns c = let said = c .before .before .before .before .before .before .largest-on in
     let args = c .before .before .before .before .before .before .before .before .before .before .before .before .before .before .args in
     let asked = c .before .before .before .before .before .before .before .before .before .before .before .before .before .before .pre in
-    let rooms = said .kept .1 .1 .0 ∙ length-take-le _ (args .room .now) (asked .limits) in
+    let headrooms = said .kept .1 .1 .0 ∙ length-take-le _ (args .headroom .now) (asked .ceilings) in
     let cells = said .kept .1 .1 .1 .0 ∙ length-take-le _ (args .a .now) (asked .cells .cells) in
     let lines = said .kept .1 .1 .1 .1 .0 ∙ length-take-le _ (args .marks .now) (asked .lines) in
-    fronts _ _ _ (said .last .1 .1 .1 .0) (said .last .1 .1 .0) (said .last .1 .1 .1 .1 .0) _ _ _ cells rooms lines (said .ensures) _ _ (drop-at (said .last .1 .1 .1 .0) _ _ cells) (drop-at (said .last .1 .1 .0) _ _ rooms) (drop-at (said .last .1 .1 .1 .1 .0) _ _ lines)
+    fronts _ _ _ (said .last .1 .1 .1 .0) (said .last .1 .1 .0) (said .last .1 .1 .1 .1 .0) _ _ _ cells headrooms lines (said .ensures) _ _ (drop-at (said .last .1 .1 .1 .0) _ _ cells) (drop-at (said .last .1 .1 .0) _ _ headrooms) (drop-at (said .last .1 .1 .1 .1 .0) _ _ lines)
 
 pub largest-spec : {M : Type 1} → statement M
 largest-spec =

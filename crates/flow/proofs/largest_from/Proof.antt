@@ -12,8 +12,8 @@ slice-aggregate-rows c = search needs
 rows-requires : tie.Need-rows-requires
 rows-requires c κs = (c .before .before .before .before .before .pre .below .bounds, omega (arith, c .before .before .before .before .before .pre .below .cells .nodes))
 
-roomy-requires : tie.Need-roomy-requires
-roomy-requires c κs = (c .before .before .before .before .before .before .before .before .pre .below .cells .nodes, omega (arith, c .before .before .before .before .before .before .before .before .pre .rooms))
+open-lines-requires : tie.Need-open-lines-requires
+open-lines-requires c κs = (c .before .before .before .before .before .before .before .before .pre .below .cells .nodes, omega (arith, c .before .before .before .before .before .before .before .before .pre .headrooms))
 
 slice-aggregate-fill : tie.Need-slice-aggregate-fill
 slice-aggregate-fill c = search needs
@@ -22,7 +22,7 @@ slice-aggregate-fill-2 : tie.Need-slice-aggregate-fill-2
 slice-aggregate-fill-2 c = search needs
 
 fill-requires : tie.Need-fill-requires
-fill-requires c κs = (empty-sides (c .before .before .before .before .before .before .before .before .before .before .before .before .before .pre) (c .before .before .before .before .before .before .before .rows .ensures) (omega (arith, c .before .before .before .before .before .before .before .rows .kept .1 .1 .1 .0, c .before .before .before .before .before .before .before .before .before .before .before .before .before .pre .below .cells .nodes)), c .before .before .before .before .before .before .before .before .before .before .before .before .before .pre .rooms)
+fill-requires c κs = (empty-sides (c .before .before .before .before .before .before .before .before .before .before .before .before .before .pre) (c .before .before .before .before .before .before .before .rows .ensures) (omega (arith, c .before .before .before .before .before .before .before .rows .kept .1 .1 .1 .0, c .before .before .before .before .before .before .before .before .before .before .before .before .before .pre .below .cells .nodes)), c .before .before .before .before .before .before .before .before .before .before .before .before .before .pre .headrooms)
 
 slice-aggregate-grow : tie.Need-slice-aggregate-grow
 slice-aggregate-grow c = search needs
@@ -31,7 +31,7 @@ slice-aggregate-grow-2 : tie.Need-slice-aggregate-grow-2
 slice-aggregate-grow-2 c = search needs
 
 grow-requires : tie.Need-grow-requires
-grow-requires c κs = (c .before .before .before .before .before .before .before .before .before .before .before .fill .ensures .sides, omega (arith, c .before .before .before .before .before .before .before .before .before .before .before .before .before .before .before .before .before .before .before .before .before .before .before .before .before .pre .rooms, c .before .before .before .before .before .before .before .before .before .before .before .fill .kept .1 .1 .1 .0), c .before .before .before .before .before .before .before .before .before .before .before .before .before .before .before .before .before .before .before .before .before .before .before .before .before .pre .lines)
+grow-requires c κs = (c .before .before .before .before .before .before .before .before .before .before .before .fill .ensures .sides, omega (arith, c .before .before .before .before .before .before .before .before .before .before .before .before .before .before .before .before .before .before .before .before .before .before .before .before .before .pre .headrooms, c .before .before .before .before .before .before .before .before .before .before .before .fill .kept .1 .1 .1 .0), c .before .before .before .before .before .before .before .before .before .before .before .before .before .before .before .before .before .before .before .before .before .before .before .before .before .pre .lines)
 
 same-length : tie.Need-same-length
 same-length c = c .before .before .before .before .before .before .before .before .grow .kept .1 .1 .0 ∙ c .before .before .before .before .before .before .before .before .before .before .before .before .before .before .before .before .before .before .before .before .fill .kept .1 .1 .0
@@ -51,7 +51,7 @@ largest-from-spec =
     (tie.spec
     slice-aggregate-rows
     rows-requires
-    roomy-requires
+    open-lines-requires
     slice-aggregate-fill
     slice-aggregate-fill-2
     fill-requires

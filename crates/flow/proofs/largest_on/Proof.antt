@@ -1,4 +1,4 @@
--- `flow::largest_on` meets its contract: from zeros and limits to the end. Assumes nothing.
+-- `flow::largest_on` meets its contract: from zeros and ceilings to the end. Assumes nothing.
 use Prim.Native.Nat.{_*_}
 use mathlib.Core.Path.{_∙_}
 use borrow.Author.Needs.{needs}
@@ -11,7 +11,7 @@ clear-requires : tie.Need-clear-requires
 clear-requires c κs = search needs
 
 largest-within-requires : tie.Need-largest-within-requires
-largest-within-requires c κs = empty-start (c .before .before .before .before .before .before .before .before .before .before .before .args .n) (c .before .before .before .before .before .clear .last .1 .0) (cleared-at (c .before .before .before .before .before .before .before .before .before .before .before .args .n * c .before .before .before .before .before .before .before .before .before .before .before .args .n) (c .before .before .before .before .before .clear .last .1 .0) (c .before .before .before .before .before .before .before .before .before .before .before .args .a .now) (c .before .before .before .before .before .clear .ensures)) (c .before .before .before .before .before .before .before .before .before .before .before .args .bound .now) (c .before .before .before .before .before .before .before .before .before .before .before .args .a .now) (c .before .before .before .before .before .before .before .before .before .before .before .args .room .now) (c .before .before .before .before .before .before .before .before .before .before .before .args .marks .now) (c .before .before .before .before .before .before .before .before .before .before .before .pre) (c .before .before .before .before .before .clear .kept .1 .0)
+largest-within-requires c κs = empty-start (c .before .before .before .before .before .before .before .before .before .before .before .args .n) (c .before .before .before .before .before .clear .last .1 .0) (cleared-at (c .before .before .before .before .before .before .before .before .before .before .before .args .n * c .before .before .before .before .before .before .before .before .before .before .before .args .n) (c .before .before .before .before .before .clear .last .1 .0) (c .before .before .before .before .before .before .before .before .before .before .before .args .a .now) (c .before .before .before .before .before .clear .ensures)) (c .before .before .before .before .before .before .before .before .before .before .before .args .bound .now) (c .before .before .before .before .before .before .before .before .before .before .before .args .a .now) (c .before .before .before .before .before .before .before .before .before .before .before .args .headroom .now) (c .before .before .before .before .before .before .before .before .before .before .before .args .marks .now) (c .before .before .before .before .before .before .before .before .before .before .before .pre) (c .before .before .before .before .before .clear .kept .1 .0)
 
 same-length : tie.Need-same-length
 same-length c = c .before .before .before .before .before .before .largest-within .kept .1 .1 .1 .0

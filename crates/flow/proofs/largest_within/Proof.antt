@@ -1,12 +1,12 @@
--- `flow::largest_within` meets its contract, whether some row and some column have room or not. Assumes nothing.
+-- `flow::largest_within` meets its contract, whether some row and some column have headroom or not. Assumes nothing.
 use native.Mathlib.Omega.{arith}
 use mathlib.Core.Path.{refl}
 use Rattle.flow.proofs.Grows.{no-row-grown, no-column-grown}
 use Rattle.flow.proofs.largest_within.Statement.{statement}
 use Rattle.flow.proofs.largest_within.Tie as tie
 
-roomy-requires : tie.Need-roomy-requires
-roomy-requires c κs = (c .before .before .before .before .before .pre .below .cells .nodes, omega (arith, c .before .before .before .before .before .pre .rooms))
+open-lines-requires : tie.Need-open-lines-requires
+open-lines-requires c κs = (c .before .before .before .before .before .pre .below .cells .nodes, omega (arith, c .before .before .before .before .before .pre .headrooms))
 
 first-requires : tie.Need-first-requires
 first-requires c κs = tt
@@ -27,10 +27,10 @@ same-length-2 : tie.Need-same-length-2
 same-length-2 c = c .before .before .mark .kept .1 .0
 
 returns : tie.Need-returns
-returns c = no-row-grown (c .before .before .before .before .before .before .before .before .before .before .before .before .before .before .pre) (c .before .before .before .before .before .before .before .first .ensures) (c .before .before .before .before .before .before .if1 .taken) (c .before .before .mark .ensures) (c .before .before .before .before .before .before .before .before .roomy .ensures) (c .before .before .before .before .all .ensures) (c .before .before .before .all2 .ensures)
+returns c = no-row-grown (c .before .before .before .before .before .before .before .before .before .before .before .before .before .before .pre) (c .before .before .before .before .before .before .before .first .ensures) (c .before .before .before .before .before .before .if1 .taken) (c .before .before .mark .ensures) (c .before .before .before .before .before .before .before .before .open-lines .ensures) (c .before .before .before .before .all .ensures) (c .before .before .before .all2 .ensures)
 
-roomy-requires-2 : tie.Need-roomy-requires-2
-roomy-requires-2 c κs = (c .before .before .before .before .before .before .before .before .before .pre .below .cells .nodes, omega (arith, c .before .before .before .before .before .before .before .before .before .pre .rooms))
+open-lines-requires-2 : tie.Need-open-lines-requires-2
+open-lines-requires-2 c κs = (c .before .before .before .before .before .before .before .before .before .pre .below .cells .nodes, omega (arith, c .before .before .before .before .before .before .before .before .before .pre .headrooms))
 
 first-requires-2 : tie.Need-first-requires-2
 first-requires-2 c κs = tt
@@ -51,7 +51,7 @@ same-length-4 : tie.Need-same-length-4
 same-length-4 c = c .before .before .mark2 .kept .1 .0
 
 returns-2 : tie.Need-returns-2
-returns-2 c = no-column-grown (c .before .before .before .before .before .before .before .before .before .before .before .before .before .before .before .before .before .before .pre) (c .before .before .before .before .before .before .before .first2 .ensures) (c .before .before .before .before .before .before .if2 .taken) (c .before .before .mark2 .ensures) (c .before .before .before .before .before .before .before .before .roomy2 .ensures) (c .before .before .before .before .none .ensures) (c .before .before .before .none2 .ensures)
+returns-2 c = no-column-grown (c .before .before .before .before .before .before .before .before .before .before .before .before .before .before .before .before .before .before .pre) (c .before .before .before .before .before .before .before .first2 .ensures) (c .before .before .before .before .before .before .if2 .taken) (c .before .before .mark2 .ensures) (c .before .before .before .before .before .before .before .before .open-lines2 .ensures) (c .before .before .before .before .none .ensures) (c .before .before .before .none2 .ensures)
 
 largest-from-requires : tie.Need-largest-from-requires
 largest-from-requires c κs = c .before .before .before .before .before .before .before .before .before .before .before .before .before .before .before .pre
@@ -72,7 +72,7 @@ pub largest-within-spec : {M : Type 1} → statement M
 largest-within-spec =
     tie.close
     (tie.spec
-    roomy-requires
+    open-lines-requires
     first-requires
     all-requires
     all-requires-2
@@ -80,7 +80,7 @@ largest-within-spec =
     same-length
     same-length-2
     returns
-    roomy-requires-2
+    open-lines-requires-2
     first-requires-2
     none-requires
     none-requires-2

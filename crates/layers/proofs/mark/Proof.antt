@@ -14,20 +14,20 @@ abbrev μ-loop : tie.MeasureT-loop
 loop-holds : tie.Need-loop-holds Inv-loop μ-loop
 loop-holds c = mark-start _ _ _ _
 
-outside-requires : tie.Need-outside-requires Inv-loop μ-loop
-outside-requires c κs = omega (arith, c .before .before .before .before .pre .0)
+absent-requires : tie.Need-absent-requires Inv-loop μ-loop
+absent-requires c κs = omega (arith, c .before .before .before .before .pre .0)
 
 put-byte-requires : tie.Need-put-byte-requires Inv-loop μ-loop
-put-byte-requires c κs = (omega (arith, c .before .before .before .before .before .pre .1, c .before .before .before .loop .inv .len), omega (arith, c .outside .ensures))
+put-byte-requires c κs = (omega (arith, c .before .before .before .before .before .pre .1, c .before .before .before .loop .inv .len), omega (arith, c .absent .ensures))
 
 add-put-byte : tie.Need-add-put-byte Inv-loop μ-loop
 add-put-byte c = omega (arith, c .before .before .before .before .before .before .before .before .before .pre .0)
 
-outside-requires-2 : tie.Need-outside-requires-2 Inv-loop μ-loop
-outside-requires-2 c κs = omega (arith, c .before .before .before .before .before .before .before .before .before .pre .0)
+absent-requires-2 : tie.Need-absent-requires-2 Inv-loop μ-loop
+absent-requires-2 c κs = omega (arith, c .before .before .before .before .before .before .before .before .before .pre .0)
 
 put-byte-requires-2 : tie.Need-put-byte-requires-2 Inv-loop μ-loop
-put-byte-requires-2 c κs = (omega (arith, c .before .before .before .before .before .before .before .before .before .before .pre .1, c .before .before .before .before .before .before .before .before .loop .inv .len, c .before .before .before .before .put-byte .kept .0), omega (arith, c .outside2 .ensures))
+put-byte-requires-2 c κs = (omega (arith, c .before .before .before .before .before .before .before .before .before .before .pre .1, c .before .before .before .before .before .before .before .before .loop .inv .len, c .before .before .before .before .put-byte .kept .0), omega (arith, c .absent2 .ensures))
 
 add-k : tie.Need-add-k Inv-loop μ-loop
 add-k c = omega (arith, c .before .before .before .before .before .before .before .before .before .before .before .before .before .pre .0)
@@ -36,7 +36,7 @@ loop-less : tie.Need-loop-less Inv-loop μ-loop
 loop-less c = omega arith
 
 loop-again : tie.Need-loop-again Inv-loop μ-loop
-loop-again c = rw (c .before .before .put-byte2 .ensures, c .before .before .before .before .before .before .before .put-byte .ensures) (mark-step (c .before .before .before .before .before .before .before .before .before .before .before .before .before .pre .1) (c .before .before .before .before .before .before .before .before .before .before .before .loop .inv) (c .before .before .before .before .before .before .before .before .before .before .loop-test .taken) _ _ (c .before .before .before .before .before .before .before .before .outside .ensures) (c .before .before .before .outside2 .ensures))
+loop-again c = rw (c .before .before .put-byte2 .ensures, c .before .before .before .before .before .before .before .put-byte .ensures) (mark-step (c .before .before .before .before .before .before .before .before .before .before .before .before .before .pre .1) (c .before .before .before .before .before .before .before .before .before .before .before .loop .inv) (c .before .before .before .before .before .before .before .before .before .before .loop-test .taken) _ _ (c .before .before .before .before .before .before .before .before .absent .ensures) (c .before .before .before .absent2 .ensures))
 
 same-length : tie.Need-same-length Inv-loop μ-loop
 same-length c = c .before .loop .inv .len
@@ -51,10 +51,10 @@ mark-spec =
     Inv-loop
     μ-loop
     loop-holds
-    outside-requires
+    absent-requires
     put-byte-requires
     add-put-byte
-    outside-requires-2
+    absent-requires-2
     put-byte-requires-2
     add-k
     loop-less

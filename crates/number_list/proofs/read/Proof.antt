@@ -4,7 +4,7 @@ use Prim.Native.Nat.{_≤_, _-_}
 use lib.ListN.{length}
 use native.Mathlib.Omega.{arith}
 use mathlib.Core.Path.{_≡_, refl, sym, _∙_}
-use Rattle.number_list.proofs.InputLaws.{Reading, reading-start, reading-room, reading-digit, reading-long, reading-junk, reading-part, reading-end}
+use Rattle.number_list.proofs.InputLaws.{Reading, reading-start, reading-fits, reading-digit, reading-long, reading-junk, reading-part, reading-end}
 use Rattle.number_list.proofs.read.Statement.{statement}
 use Rattle.number_list.proofs.read.Tie as tie
 
@@ -30,13 +30,13 @@ returns : tie.Need-returns Inv-loop μ-loop
 returns c = reading-long _ _ _ _ _ _ (c .before .before .before .before .before .loop .inv .2) (c .before .before .before .before .loop-test .taken) (sym (c .before .before .is-digit .ensures) ∙ c .before .if1 .taken) (c .if2 .taken)
 
 mul-value : tie.Need-mul-value Inv-loop μ-loop
-mul-value c = omega (arith, reading-room _ _ _ _ _ _ (c .before .before .before .before .before .loop .inv .2) (omega (arith, c .before .before .before .before .before .loop .inv .2 .few)))
+mul-value c = omega (arith, reading-fits _ _ _ _ _ _ (c .before .before .before .before .before .loop .inv .2) (omega (arith, c .before .before .before .before .before .loop .inv .2 .few)))
 
 digit-requires : tie.Need-digit-requires Inv-loop μ-loop
 digit-requires c κs = sym (c .before .before .is-digit .ensures) ∙ c .before .if1 .taken
 
 add-value : tie.Need-add-value Inv-loop μ-loop
-add-value c = omega (arith, c .digit .ensures, reading-room _ _ _ _ _ _ (c .before .before .before .before .before .before .loop .inv .2) (omega (arith, c .before .before .before .before .before .before .loop .inv .2 .few)))
+add-value c = omega (arith, c .digit .ensures, reading-fits _ _ _ _ _ _ (c .before .before .before .before .before .before .loop .inv .2) (omega (arith, c .before .before .before .before .before .before .loop .inv .2 .few)))
 
 add-digits : tie.Need-add-digits Inv-loop μ-loop
 add-digits c = omega (arith, c .before .before .before .before .before .before .loop .inv .2 .few)

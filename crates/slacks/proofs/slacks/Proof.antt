@@ -30,17 +30,17 @@ mul-lines c = search needs
 array-share-prefix-cap : tie.Need-array-share-prefix-cap
 array-share-prefix-cap c = let a = c .before .before .before .before .args in let g = slacks-fits (a .nodes) (a .slots) (a .demand .now) (a .table .now) (c .before .before .slacks-verdict .ensures) (c .enum-told .given .1) in omega (arith, g .sizes .nodes)
 
-slice-aggregate-fill : tie.Need-slice-aggregate-fill
-slice-aggregate-fill c = let a = c .before .before .before .before .before .args in let g = slacks-fits (a .nodes) (a .slots) (a .demand .now) (a .table .now) (c .before .before .before .slacks-verdict .ensures) (c .before .enum-told .given .1) in sym (length-take-le _ _ (omega (arith, length-replicate 128 (a .slots), g .sizes .nodes)))
+slice-aggregate-write-slacks : tie.Need-slice-aggregate-write-slacks
+slice-aggregate-write-slacks c = let a = c .before .before .before .before .before .args in let g = slacks-fits (a .nodes) (a .slots) (a .demand .now) (a .table .now) (c .before .before .before .slacks-verdict .ensures) (c .before .enum-told .given .1) in sym (length-take-le _ _ (omega (arith, length-replicate 128 (a .slots), g .sizes .nodes)))
 
-fill-requires : tie.Need-fill-requires
-fill-requires c κs = let a = c .before .before .before .before .before .before .args in let g = slacks-fits (a .nodes) (a .slots) (a .demand .now) (a .table .now) (c .before .before .before .before .slacks-verdict .ensures) (c .before .before .enum-told .given .1) in ((g .demand, g .within), (rw (whole-frame (a .nodes) (a .slots) (g .sizes .nodes)) (whole-frame-fits _ _ (g .sizes .slots)), g .lines))
+write-slacks-requires : tie.Need-write-slacks-requires
+write-slacks-requires c κs = let a = c .before .before .before .before .before .before .args in let g = slacks-fits (a .nodes) (a .slots) (a .demand .now) (a .table .now) (c .before .before .before .before .slacks-verdict .ensures) (c .before .before .enum-told .given .1) in ((g .demand, g .within), (rw (whole-frame (a .nodes) (a .slots) (g .sizes .nodes)) (whole-frame-fits _ _ (g .sizes .slots)), g .lines))
 
 same-length : tie.Need-same-length
 same-length c = search needs
 
 returns-2 : tie.Need-returns-2
-returns-2 c = let a = c .before .before .before .before .before .before .before .before .args in let g = slacks-fits (a .nodes) (a .slots) (a .demand .now) (a .table .now) (c .before .before .before .before .before .before .slacks-verdict .ensures) (c .before .before .before .before .enum-told .given .1) in slacks-done (a .nodes) (a .slots) (a .demand .now) (a .table .now) (c .before .before .before .before .before .before .slacks-verdict .ensures) (c .before .before .before .before .enum-told .given .1) (c .before .fill .ensures ∙ ap (λ cap. written (2 * a .nodes) (tab (2 * a .nodes) (slack (a .nodes) cap (a .demand .now))) (a .table .now)) (whole-frame (a .nodes) (a .slots) (g .sizes .nodes)))
+returns-2 c = let a = c .before .before .before .before .before .before .before .before .args in let g = slacks-fits (a .nodes) (a .slots) (a .demand .now) (a .table .now) (c .before .before .before .before .before .before .slacks-verdict .ensures) (c .before .before .before .before .enum-told .given .1) in slacks-done (a .nodes) (a .slots) (a .demand .now) (a .table .now) (c .before .before .before .before .before .before .slacks-verdict .ensures) (c .before .before .before .before .enum-told .given .1) (c .before .write-slacks .ensures ∙ ap (λ cap. written (2 * a .nodes) (tab (2 * a .nodes) (slack (a .nodes) cap (a .demand .now))) (a .table .now)) (whole-frame (a .nodes) (a .slots) (g .sizes .nodes)))
 
 pub slacks-spec : {M : Type 1} → statement M
 slacks-spec =
@@ -52,7 +52,7 @@ slacks-spec =
     returns
     mul-lines
     array-share-prefix-cap
-    slice-aggregate-fill
-    fill-requires
+    slice-aggregate-write-slacks
+    write-slacks-requires
     same-length
     returns-2)

@@ -2,7 +2,7 @@
 use mathlib.Core.Path.{_≡_}
 use borrow.Author.Needs.{needs}
 use Rattle.fair.proofs.Comparisons.{next-start, next-ahead, next-behind}
-use Rattle.fair.specs.Cuts.{Next}
+use Rattle.fair.specs.Cuts.{NextLine}
 use mathlib.Core.Logic.{⊎-elim}
 use native.Mathlib.Omega.{arith}
 use Prim.Native.Nat.{_≤_, _*_, _-_}
@@ -10,7 +10,7 @@ use Rattle.fair.proofs.choice.next_line.Statement.{statement}
 use Rattle.fair.proofs.choice.next_line.Tie as tie
 
 abbrev Inv-loop : tie.InvT-loop
-Inv-loop n cap a b found₀ line₀ found line = (line ≤ 2 * n) × Next n cap a b line found
+Inv-loop n cap a b found₀ line₀ found line = (line ≤ 2 * n) × NextLine n cap a b line found
 
 abbrev μ-loop : tie.MeasureT-loop
 μ-loop n cap a b found₀ line₀ found line = 2 * n - line

@@ -16,25 +16,25 @@ abbrev μ-loop : tie.MeasureT-loop
 μ-loop n cap kept₀ done a₀ b₀ line p q sum₀ t₀ kept a b sum t = n - t
 
 mul-p : tie.Need-mul-p Inv-loop μ-loop
-mul-p c = omega (arith, c .before .before .before .before .before .pre .least .line, c .before .before .before .before .before .pre .capacities .lines)
+mul-p c = omega (arith, c .before .before .before .before .before .pre .smallest .line, c .before .before .before .before .before .pre .capacities .lines)
 
 shared-slice-read-p : tie.Need-shared-slice-read-p Inv-loop μ-loop
-shared-slice-read-p c = omega (arith, c .before .before .before .before .before .before .pre .least .line, c .before .before .before .before .before .before .pre .capacities .lines)
+shared-slice-read-p c = omega (arith, c .before .before .before .before .before .before .pre .smallest .line, c .before .before .before .before .before .before .pre .capacities .lines)
 
 mul-p-2 : tie.Need-mul-p-2 Inv-loop μ-loop
-mul-p-2 c = omega (arith, c .before .before .before .before .before .before .pre .least .line, c .before .before .before .before .before .before .pre .capacities .lines)
+mul-p-2 c = omega (arith, c .before .before .before .before .before .before .pre .smallest .line, c .before .before .before .before .before .before .pre .capacities .lines)
 
 slice-read-p : tie.Need-slice-read-p Inv-loop μ-loop
-slice-read-p c = omega (arith, c .before .before .before .before .before .before .before .pre .least .line, c .before .before .before .before .before .before .before .pre .counted .room)
+slice-read-p c = omega (arith, c .before .before .before .before .before .before .before .pre .smallest .line, c .before .before .before .before .before .before .before .pre .counted .room)
 
 sub-p : tie.Need-sub-p Inv-loop μ-loop
-sub-p c = b-within _ _ _ _ _ _ _ (c .before .before .before .before .before .before .before .pre) _ (c .before .before .before .before .before .before .before .pre .least .line)
+sub-p c = b-within _ _ _ _ _ _ _ (c .before .before .before .before .before .before .before .pre) _ (c .before .before .before .before .before .before .before .pre .smallest .line)
 
 mul-q : tie.Need-mul-q Inv-loop μ-loop
-mul-q c = omega (arith, c .before .before .before .before .before .before .before .pre .least .line, c .before .before .before .before .before .before .before .pre .counted .room)
+mul-q c = omega (arith, c .before .before .before .before .before .before .before .pre .smallest .line, c .before .before .before .before .before .before .before .pre .counted .room)
 
 slice-read-q : tie.Need-slice-read-q Inv-loop μ-loop
-slice-read-q c = omega (arith, c .before .before .before .before .before .before .before .before .pre .least .line, c .before .before .before .before .before .before .before .before .pre .counted .room)
+slice-read-q c = omega (arith, c .before .before .before .before .before .before .before .before .pre .smallest .line, c .before .before .before .before .before .before .before .before .pre .counted .room)
 
 loop-holds : tie.Need-loop-holds Inv-loop μ-loop
 loop-holds c = (omega arith, partway-start _ _ _ _ _ _ _)
@@ -43,7 +43,7 @@ crossing-requires : tie.Need-crossing-requires Inv-loop μ-loop
 crossing-requires c κs = (omega (arith, c .before .before .before .before .before .before .before .before .before .before .pre .nodes), c .loop-test .taken)
 
 slice-read-if1 : tie.Need-slice-read-if1 Inv-loop μ-loop
-slice-read-if1 c = omega (arith, c .before .crossing .ensures, crossing-lt (c .before .before .before .before .before .before .before .before .before .before .before .before .args .n) (c .before .before .before .before .before .before .before .before .before .before .before .before .args .line) (c .before .before .before .loop .t) (c .before .before .before .before .before .before .before .before .before .before .before .before .pre .least .line) (c .before .before .loop-test .taken), c .before .before .before .before .before .before .before .before .before .before .before .before .pre .sound .flags)
+slice-read-if1 c = omega (arith, c .before .crossing .ensures, crossing-lt (c .before .before .before .before .before .before .before .before .before .before .before .before .args .n) (c .before .before .before .before .before .before .before .before .before .before .before .before .args .line) (c .before .before .before .loop .t) (c .before .before .before .before .before .before .before .before .before .before .before .before .pre .smallest .line) (c .before .before .loop-test .taken), c .before .before .before .before .before .before .before .before .before .before .before .before .pre .sound .flags)
 
 add-t : tie.Need-add-t Inv-loop μ-loop
 add-t c = omega arith
@@ -52,13 +52,13 @@ loop-less : tie.Need-loop-less Inv-loop μ-loop
 loop-less c = omega arith
 
 loop-again : tie.Need-loop-again Inv-loop μ-loop
-loop-again c = (omega arith, partway-pass (c .before .before .before .before .loop .inv .1) (c .before .before .before .before .before .before .before .before .before .before .before .before .before .pre .least .line) (c .before .before .before .loop-test .taken) (line-uncut _ _ _ _ _ _ _ (c .before .before .before .before .before .before .before .before .before .before .before .before .before .pre)) (rw (c .before .before .crossing .ensures) at (c .if1 .taken)))
+loop-again c = (omega arith, partway-pass (c .before .before .before .before .loop .inv .1) (c .before .before .before .before .before .before .before .before .before .before .before .before .before .pre .smallest .line) (c .before .before .before .loop-test .taken) (line-uncut _ _ _ _ _ _ _ (c .before .before .before .before .before .before .before .before .before .before .before .before .before .pre)) (rw (c .before .before .crossing .ensures) at (c .if1 .taken)))
 
 cut-cell-requires : tie.Need-cut-cell-requires Inv-loop μ-loop
 cut-cell-requires c κs = can-cut-cell _ _ _ _ _ _ _ (c .before .before .before .before .before .before .before .before .before .before .before .before .before .before .before .before .pre) (c .before .before .before .before .before .before .before .loop .inv .1) (c .before .before .before .before .before .before .loop-test .taken) (rw (c .before .before .before .before .before .crossing .ensures) at (c .before .before .before .if1 .left))
 
 add-sum : tie.Need-add-sum Inv-loop μ-loop
-add-sum c = omega (arith, sum-fits _ _ _ _ _ _ _ (c .before .before .before .before .before .before .before .before .before .before .before .before .before .before .before .before .before .before .before .before .before .before .before .pre) (partway-turn _ _ _ _ _ _ _ (c .before .before .before .before .before .before .before .before .before .before .before .before .before .before .before .before .before .before .before .before .before .before .before .pre) (c .before .before .before .before .before .before .before .before .before .before .before .before .before .before .loop .inv .1) (c .before .before .before .before .before .before .before .before .before .before .before .before .before .loop-test .taken) (rw (c .before .before .before .before .before .before .before .before .before .before .before .before .crossing .ensures) at (c .before .before .before .before .before .before .before .before .before .before .if1 .left)) (c .before .before .before .before .before .before .cut-cell .ensures)) (omega arith), c .before .before .before .before .before .before .before .before .before .before .before .before .before .before .before .before .before .before .before .before .before .before .before .pre .capacities .most (c .before .before .before .before .before .before .before .before .before .before .before .before .before .before .before .before .before .before .before .before .before .before .before .args .line) (c .before .before .before .before .before .before .before .before .before .before .before .before .before .before .before .before .before .before .before .before .before .before .before .pre .least .line))
+add-sum c = omega (arith, sum-fits _ _ _ _ _ _ _ (c .before .before .before .before .before .before .before .before .before .before .before .before .before .before .before .before .before .before .before .before .before .before .before .pre) (partway-turn _ _ _ _ _ _ _ (c .before .before .before .before .before .before .before .before .before .before .before .before .before .before .before .before .before .before .before .before .before .before .before .pre) (c .before .before .before .before .before .before .before .before .before .before .before .before .before .before .loop .inv .1) (c .before .before .before .before .before .before .before .before .before .before .before .before .before .loop-test .taken) (rw (c .before .before .before .before .before .before .before .before .before .before .before .before .crossing .ensures) at (c .before .before .before .before .before .before .before .before .before .before .if1 .left)) (c .before .before .before .before .before .before .cut-cell .ensures)) (omega arith), c .before .before .before .before .before .before .before .before .before .before .before .before .before .before .before .before .before .before .before .before .before .before .before .pre .capacities .most (c .before .before .before .before .before .before .before .before .before .before .before .before .before .before .before .before .before .before .before .before .before .before .before .args .line) (c .before .before .before .before .before .before .before .before .before .before .before .before .before .before .before .before .before .before .before .before .before .before .before .pre .smallest .line))
 
 add-t-2 : tie.Need-add-t-2 Inv-loop μ-loop
 add-t-2 c = omega arith
@@ -70,25 +70,25 @@ loop-again-2 : tie.Need-loop-again-2 Inv-loop μ-loop
 loop-again-2 c = (omega arith, partway-turn _ _ _ _ _ _ _ (c .before .before .before .before .before .before .before .before .before .before .before .before .before .before .before .before .before .before .before .before .before .before .before .pre) (c .before .before .before .before .before .before .before .before .before .before .before .before .before .before .loop .inv .1) (c .before .before .before .before .before .before .before .before .before .before .before .before .before .loop-test .taken) (rw (c .before .before .before .before .before .before .before .before .before .before .before .before .crossing .ensures) at (c .before .before .before .before .before .before .before .before .before .before .if1 .left)) (c .before .before .before .before .before .before .cut-cell .ensures))
 
 mul-a : tie.Need-mul-a Inv-loop μ-loop
-mul-a c = omega (arith, c .before .before .before .before .before .before .before .before .before .before .pre .least .line, c .before .before .before .before .before .before .before .before .before .before .pre .capacities .lines)
+mul-a c = omega (arith, c .before .before .before .before .before .before .before .before .before .before .pre .smallest .line, c .before .before .before .before .before .before .before .before .before .before .pre .capacities .lines)
 
 slice-write-a : tie.Need-slice-write-a Inv-loop μ-loop
-slice-write-a c = omega (arith, c .before .before .before .before .before .before .before .before .before .before .pre .least .line, c .before .before .before .before .before .before .before .before .before .before .pre .counted .room, c .before .loop .inv .1 .lengths)
+slice-write-a c = omega (arith, c .before .before .before .before .before .before .before .before .before .before .pre .smallest .line, c .before .before .before .before .before .before .before .before .before .before .pre .counted .room, c .before .loop .inv .1 .lengths)
 
 mul-b : tie.Need-mul-b Inv-loop μ-loop
-mul-b c = omega (arith, c .before .before .before .before .before .before .before .before .before .before .pre .least .line, c .before .before .before .before .before .before .before .before .before .before .pre .capacities .lines)
+mul-b c = omega (arith, c .before .before .before .before .before .before .before .before .before .before .pre .smallest .line, c .before .before .before .before .before .before .before .before .before .before .pre .capacities .lines)
 
 slice-read-b : tie.Need-slice-read-b Inv-loop μ-loop
-slice-read-b c = omega (arith, c .before .before .before .before .before .before .before .before .before .before .before .pre .least .line, c .before .before .before .before .before .before .before .before .before .before .before .pre .counted .room, c .before .before .loop .inv .1 .lengths)
+slice-read-b c = omega (arith, c .before .before .before .before .before .before .before .before .before .before .before .pre .smallest .line, c .before .before .before .before .before .before .before .before .before .before .before .pre .counted .room, c .before .before .loop .inv .1 .lengths)
 
 add-b : tie.Need-add-b Inv-loop μ-loop
-add-b c = omega (arith, own-b _ _ _ _ _ _ _ (c .before .before .before .before .before .before .before .before .before .before .before .pre) (c .before .before .loop .inv .1) (c .before .before .loop .inv .0), sum-fits _ _ _ _ _ _ _ (c .before .before .before .before .before .before .before .before .before .before .before .pre) (c .before .before .loop .inv .1) (c .before .before .loop .inv .0), b-within _ _ _ _ _ _ _ (c .before .before .before .before .before .before .before .before .before .before .before .pre) (c .before .before .before .before .before .before .before .before .before .before .before .args .line) (c .before .before .before .before .before .before .before .before .before .before .before .pre .least .line), c .before .before .before .before .before .before .before .before .before .before .before .pre .capacities .most (c .before .before .before .before .before .before .before .before .before .before .before .args .line) (c .before .before .before .before .before .before .before .before .before .before .before .pre .least .line))
+add-b c = omega (arith, own-b _ _ _ _ _ _ _ (c .before .before .before .before .before .before .before .before .before .before .before .pre) (c .before .before .loop .inv .1) (c .before .before .loop .inv .0), sum-fits _ _ _ _ _ _ _ (c .before .before .before .before .before .before .before .before .before .before .before .pre) (c .before .before .loop .inv .1) (c .before .before .loop .inv .0), b-within _ _ _ _ _ _ _ (c .before .before .before .before .before .before .before .before .before .before .before .pre) (c .before .before .before .before .before .before .before .before .before .before .before .args .line) (c .before .before .before .before .before .before .before .before .before .before .before .pre .smallest .line), c .before .before .before .before .before .before .before .before .before .before .before .pre .capacities .most (c .before .before .before .before .before .before .before .before .before .before .before .args .line) (c .before .before .before .before .before .before .before .before .before .before .before .pre .smallest .line))
 
 slice-write-b : tie.Need-slice-write-b Inv-loop μ-loop
-slice-write-b c = omega (arith, c .before .before .before .before .before .before .before .before .before .before .before .pre .least .line, c .before .before .before .before .before .before .before .before .before .before .before .pre .counted .room, c .before .before .loop .inv .1 .lengths)
+slice-write-b c = omega (arith, c .before .before .before .before .before .before .before .before .before .before .before .pre .smallest .line, c .before .before .before .before .before .before .before .before .before .before .before .pre .counted .room, c .before .before .loop .inv .1 .lengths)
 
 slice-write-done : tie.Need-slice-write-done Inv-loop μ-loop
-slice-write-done c = omega (arith, c .before .before .before .before .before .before .before .before .before .before .before .pre .least .line, c .before .before .before .before .before .before .before .before .before .before .before .pre .sound .flags)
+slice-write-done c = omega (arith, c .before .before .before .before .before .before .before .before .before .before .before .pre .smallest .line, c .before .before .before .before .before .before .before .before .before .before .before .pre .sound .flags)
 
 same-length : tie.Need-same-length Inv-loop μ-loop
 same-length c = c .before .before .loop .inv .1 .lengths .0

@@ -1,8 +1,8 @@
--- `flow::grow::grow_with` meets its contract: each search that finds a column with room lets the rows' room fall. Assumes nothing.
+-- `flow::grow::grow_with` meets its contract: each search that finds a column with headroom lets the rows' headroom fall. Assumes nothing.
 use native.Mathlib.Omega.{arith}
 use mathlib.Core.Path.{_≡_, refl, _∙_}
 use lib.ListN.{length}
-use Rattle.growth.specs.Growth.{rowRoom}
+use Rattle.growth.specs.Growth.{rowHeadroom}
 use Rattle.growth.specs.Sides.{Grew}
 use Rattle.growth.proofs.Keeping.{grew-none}
 use Rattle.flow.proofs.Grows.{grow-step, layer-lists, found-drain, unreached-grown}
@@ -10,22 +10,22 @@ use Rattle.flow.proofs.grow.grow_with.Statement.{statement}
 use Rattle.flow.proofs.grow.grow_with.Tie as tie
 
 abbrev Inv-loop : tie.InvT-loop
-Inv-loop n bound a₀ room₀ offers₀ takers₀ rows₀ columns₀ at₀ to₀ marks₀ a room offers takers rows columns at to marks = (length a ≡ length a₀) × (length room ≡ length room₀) × (length offers ≡ length offers₀) × (length takers ≡ length takers₀) × (length rows ≡ length rows₀) × (length columns ≡ length columns₀) × (length at ≡ length at₀) × (length to ≡ length to₀) × (length marks ≡ length marks₀) × Grew n bound a₀ room₀ a room offers takers
+Inv-loop n bound a₀ headroom₀ offers₀ takers₀ rows₀ columns₀ at₀ to₀ marks₀ a headroom offers takers rows columns at to marks = (length a ≡ length a₀) × (length headroom ≡ length headroom₀) × (length offers ≡ length offers₀) × (length takers ≡ length takers₀) × (length rows ≡ length rows₀) × (length columns ≡ length columns₀) × (length at ≡ length at₀) × (length to ≡ length to₀) × (length marks ≡ length marks₀) × Grew n bound a₀ headroom₀ a headroom offers takers
 
 abbrev μ-loop : tie.MeasureT-loop
-μ-loop n bound a₀ room₀ offers₀ takers₀ rows₀ columns₀ at₀ to₀ marks₀ a room offers takers rows columns at to marks = rowRoom n room
+μ-loop n bound a₀ headroom₀ offers₀ takers₀ rows₀ columns₀ at₀ to₀ marks₀ a headroom offers takers rows columns at to marks = rowHeadroom n headroom
 
 loop-holds : tie.Need-loop-holds Inv-loop μ-loop
 loop-holds c = (refl, refl, refl, refl, refl, refl, refl, refl, refl, grew-none _ (c .before .before .before .before .before .before .before .before .before .before .pre .sides))
 
-roomy-requires : tie.Need-roomy-requires Inv-loop μ-loop
-roomy-requires c κs = (c .before .before .before .before .before .before .before .before .before .before .before .before .pre .lists .layers .nodes, omega (arith, c .before .before .before .before .before .before .before .before .before .before .before .before .pre .rooms, c .before .loop .inv .1))
+open-lines-requires : tie.Need-open-lines-requires Inv-loop μ-loop
+open-lines-requires c κs = (c .before .before .before .before .before .before .before .before .before .before .before .before .pre .lists .layers .nodes, omega (arith, c .before .before .before .before .before .before .before .before .before .before .before .before .pre .headrooms, c .before .loop .inv .1))
 
-roomy-requires-2 : tie.Need-roomy-requires-2 Inv-loop μ-loop
-roomy-requires-2 c κs = (c .before .before .before .before .before .before .before .before .before .before .before .before .before .before .pre .lists .layers .nodes, omega (arith, c .before .before .before .before .before .before .before .before .before .before .before .before .before .before .pre .rooms, c .before .before .before .loop .inv .1))
+open-lines-requires-2 : tie.Need-open-lines-requires-2 Inv-loop μ-loop
+open-lines-requires-2 c κs = (c .before .before .before .before .before .before .before .before .before .before .before .before .before .before .pre .lists .layers .nodes, omega (arith, c .before .before .before .before .before .before .before .before .before .before .before .before .before .before .pre .headrooms, c .before .before .before .loop .inv .1))
 
 search-requires : tie.Need-search-requires Inv-loop μ-loop
-search-requires c κs = (c .before .before .before .before .before .before .before .before .before .loop .inv .9 .sides .columns, c .before .before .before .before .before .before .before .before .before .loop .inv .9 .sides .rows, layer-lists (c .before .before .before .before .before .before .before .before .before .before .before .before .before .before .before .before .before .before .before .before .pre .lists) (c .before .before .before .before .before .before .before .before .before .loop .inv .4) (c .before .before .before .before .before .before .before .before .before .loop .inv .5), omega (arith, c .before .before .before .before .before .before .before .before .before .before .before .before .before .before .before .before .before .before .before .before .pre .lines, c .before .before .before .before .before .before .before .before .before .loop .inv .8), c .before .before .before .before .before .before .before .roomy .ensures .within)
+search-requires c κs = (c .before .before .before .before .before .before .before .before .before .loop .inv .9 .sides .columns, c .before .before .before .before .before .before .before .before .before .loop .inv .9 .sides .rows, layer-lists (c .before .before .before .before .before .before .before .before .before .before .before .before .before .before .before .before .before .before .before .before .pre .lists) (c .before .before .before .before .before .before .before .before .before .loop .inv .4) (c .before .before .before .before .before .before .before .before .before .loop .inv .5), omega (arith, c .before .before .before .before .before .before .before .before .before .before .before .before .before .before .before .before .before .before .before .before .pre .lines, c .before .before .before .before .before .before .before .before .before .loop .inv .8), c .before .before .before .before .before .before .before .open-lines .ensures .within)
 
 same-length : tie.Need-same-length Inv-loop μ-loop
 same-length c = c .before .before .before .before .before .before .before .before .before .before .before .before .before .before .before .before .before .loop .inv .0
@@ -55,10 +55,10 @@ same-length-9 : tie.Need-same-length-9 Inv-loop μ-loop
 same-length-9 c = c .before .before .before .before .before .before .before .search .kept .1 .1 .1 .1 .1 .0 ∙ c .before .before .before .before .before .before .before .before .before .before .before .before .before .before .before .before .before .loop .inv .8
 
 returns : tie.Need-returns Inv-loop μ-loop
-returns c = unreached-grown (c .before .before .before .before .before .before .before .before .before .before .before .before .before .before .before .before .before .loop .inv .9) (c .before .before .before .before .before .before .before .search .ensures .none (c .if1 .taken)) (c .before .before .before .before .before .before .before .before .before .before .before .before .before .before .before .roomy .ensures) (c .before .before .before .before .before .before .before .before .before .before .before .before .before .roomy2 .ensures)
+returns c = unreached-grown (c .before .before .before .before .before .before .before .before .before .before .before .before .before .before .before .before .before .loop .inv .9) (c .before .before .before .before .before .before .before .search .ensures .none (c .if1 .taken)) (c .before .before .before .before .before .before .before .before .before .before .before .before .before .before .before .open-lines .ensures) (c .before .before .before .before .before .before .before .before .before .before .before .before .before .open-lines2 .ensures)
 
 drain-requires : tie.Need-drain-requires Inv-loop μ-loop
-drain-requires c κs = found-drain (c .before .before .before .before .before .before .before .before .before .before .before .before .before .before .before .before .before .before .before .before .before .before .before .before .before .loop .inv .9 .sides) (c .before .before .before .before .before .before .before .before .before .before .before .before .before .before .before .before .before .before .before .before .before .before .before .before .before .before .before .before .before .before .before .before .before .before .before .before .pre .lists) (c .before .before .before .before .before .before .before .before .before .before .before .before .before .before .before .search .kept .1 .1 .1 .0 ∙ c .before .before .before .before .before .before .before .before .before .before .before .before .before .before .before .before .before .before .before .before .before .before .before .before .before .loop .inv .4) (c .before .before .before .before .before .before .before .before .before .before .before .before .before .before .before .search .kept .1 .1 .1 .1 .0 ∙ c .before .before .before .before .before .before .before .before .before .before .before .before .before .before .before .before .before .before .before .before .before .before .before .before .before .loop .inv .5) (c .before .before .before .before .before .before .before .before .before .before .before .before .before .before .before .before .before .before .before .before .before .before .before .before .before .loop .inv .6) (c .before .before .before .before .before .before .before .before .before .before .before .before .before .before .before .before .before .before .before .before .before .before .before .before .before .loop .inv .7) (omega (arith, c .before .before .before .before .before .before .before .before .before .before .before .before .before .before .before .before .before .before .before .before .before .before .before .before .before .before .before .before .before .before .before .before .before .before .before .before .pre .rooms, c .before .before .before .before .before .before .before .before .before .before .before .before .before .before .before .before .before .before .before .before .before .before .before .before .before .loop .inv .1)) (c .before .before .before .before .before .before .before .before .before .before .before .before .before .before .before .before .before .before .before .before .before .before .before .roomy .ensures) (c .before .before .before .before .before .before .before .before .before .before .before .before .before .before .before .before .before .before .before .before .before .roomy2 .ensures) (c .before .before .before .before .before .before .before .before .before .before .before .before .before .before .before .search .ensures .found (c .before .before .before .before .before .before .before .before .if1 .left))
+drain-requires c κs = found-drain (c .before .before .before .before .before .before .before .before .before .before .before .before .before .before .before .before .before .before .before .before .before .before .before .before .before .loop .inv .9 .sides) (c .before .before .before .before .before .before .before .before .before .before .before .before .before .before .before .before .before .before .before .before .before .before .before .before .before .before .before .before .before .before .before .before .before .before .before .before .pre .lists) (c .before .before .before .before .before .before .before .before .before .before .before .before .before .before .before .search .kept .1 .1 .1 .0 ∙ c .before .before .before .before .before .before .before .before .before .before .before .before .before .before .before .before .before .before .before .before .before .before .before .before .before .loop .inv .4) (c .before .before .before .before .before .before .before .before .before .before .before .before .before .before .before .search .kept .1 .1 .1 .1 .0 ∙ c .before .before .before .before .before .before .before .before .before .before .before .before .before .before .before .before .before .before .before .before .before .before .before .before .before .loop .inv .5) (c .before .before .before .before .before .before .before .before .before .before .before .before .before .before .before .before .before .before .before .before .before .before .before .before .before .loop .inv .6) (c .before .before .before .before .before .before .before .before .before .before .before .before .before .before .before .before .before .before .before .before .before .before .before .before .before .loop .inv .7) (omega (arith, c .before .before .before .before .before .before .before .before .before .before .before .before .before .before .before .before .before .before .before .before .before .before .before .before .before .before .before .before .before .before .before .before .before .before .before .before .pre .headrooms, c .before .before .before .before .before .before .before .before .before .before .before .before .before .before .before .before .before .before .before .before .before .before .before .before .before .loop .inv .1)) (c .before .before .before .before .before .before .before .before .before .before .before .before .before .before .before .before .before .before .before .before .before .before .before .open-lines .ensures) (c .before .before .before .before .before .before .before .before .before .before .before .before .before .before .before .before .before .before .before .before .before .open-lines2 .ensures) (c .before .before .before .before .before .before .before .before .before .before .before .before .before .before .before .search .ensures .found (c .before .before .before .before .before .before .before .before .if1 .left))
 
 loop-less : tie.Need-loop-less Inv-loop μ-loop
 loop-less c = c .before .before .before .before .before .before .before .before .before .before .before .before .before .before .before .before .drain .ensures .falls
@@ -73,8 +73,8 @@ grow-with-spec =
     Inv-loop
     μ-loop
     loop-holds
-    roomy-requires
-    roomy-requires-2
+    open-lines-requires
+    open-lines-requires-2
     search-requires
     same-length
     same-length-2

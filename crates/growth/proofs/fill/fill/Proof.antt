@@ -9,10 +9,10 @@ use Rattle.growth.proofs.fill.fill.Statement.{statement}
 use Rattle.growth.proofs.fill.fill.Tie as tie
 
 abbrev Inv-loop : tie.InvT-loop
-Inv-loop n bound a₀ room₀ offers₀ takers₀ rows left₀ late₀ j₀ a room offers takers left late j = (length a ≡ length a₀) × (length room ≡ length room₀) × (length offers ≡ length offers₀) × (length takers ≡ length takers₀) × (j ≤ n) × Grew n bound a₀ room₀ a room offers takers
+Inv-loop n bound a₀ headroom₀ offers₀ takers₀ rows left₀ late₀ j₀ a headroom offers takers left late j = (length a ≡ length a₀) × (length headroom ≡ length headroom₀) × (length offers ≡ length offers₀) × (length takers ≡ length takers₀) × (j ≤ n) × Grew n bound a₀ headroom₀ a headroom offers takers
 
 abbrev μ-loop : tie.MeasureT-loop
-μ-loop n bound a₀ room₀ offers₀ takers₀ rows left₀ late₀ j₀ a room offers takers left late j = n - j
+μ-loop n bound a₀ headroom₀ offers₀ takers₀ rows left₀ late₀ j₀ a headroom offers takers left late j = n - j
 
 all-requires : tie.Need-all-requires Inv-loop μ-loop
 all-requires c κs = tt

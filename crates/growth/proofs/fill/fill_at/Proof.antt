@@ -1,4 +1,4 @@
--- `growth::fill::fill_at` meets its contract: the cell gains what the row's room loses, or nothing. Assumes nothing.
+-- `growth::fill::fill_at` meets its contract: the cell gains what the row's headroom loses, or nothing. Assumes nothing.
 use native.Mathlib.Omega.{arith}
 use mathlib.Core.Path.{refl}
 use lib.ListN.{length-set}
@@ -36,17 +36,17 @@ returns c = grew-at-none _ _ _ _ (c .before .before .before .before .before .bef
 more-requires : tie.Need-more-requires
 more-requires c κs = (c .before .before .before .before .before .before .before .before .before .before .before .before .before .before .before .pre .0, record { row = c .before .before .before .before .before .before .before .before .before .before .before .before .before .before .before .pre .1 .1; column = c .before .before .before .before .before .before .before .before .before .before .before .before .before .before .before .pre .1 .2; some = omega (arith, c .before .before .before .if1); most = omega (arith, c .before .before .before .before .before .before .before .before .before .get .ensures, c .before .before .before .before .before .before .before .get2 .ensures, c .before .before .before .before .smaller2 .ensures, c .before .before .before .before .before .before .before .before .before .before .before .before .before .before .before .pre .0 .below .below (c .before .before .before .before .before .before .before .before .before .before .before .before .before .before .before .args .i) (c .before .before .before .before .before .before .before .before .before .before .before .before .before .before .before .args .j) (c .before .before .before .before .before .before .before .before .before .before .before .before .before .before .before .pre .1 .1) (c .before .before .before .before .before .before .before .before .before .before .before .before .before .before .before .pre .1 .2)) })
 
-mul-room : tie.Need-mul-room
-mul-room c = omega (arith, c .before .before .before .before .before .before .before .before .before .before .before .before .before .before .before .before .before .before .before .before .before .before .pre .1, c .before .before .before .before .before .before .before .before .before .before .before .before .before .before .before .before .before .before .before .before .before .before .pre .0 .below .cells .nodes)
+mul-headroom : tie.Need-mul-headroom
+mul-headroom c = omega (arith, c .before .before .before .before .before .before .before .before .before .before .before .before .before .before .before .before .before .before .before .before .before .before .pre .1, c .before .before .before .before .before .before .before .before .before .before .before .before .before .before .before .before .before .before .before .before .before .before .pre .0 .below .cells .nodes)
 
-slice-read-room : tie.Need-slice-read-room
-slice-read-room c = omega (arith, c .before .before .before .before .before .before .before .before .before .before .before .before .before .before .before .before .before .before .before .before .before .before .before .pre .1)
+slice-read-headroom : tie.Need-slice-read-headroom
+slice-read-headroom c = omega (arith, c .before .before .before .before .before .before .before .before .before .before .before .before .before .before .before .before .before .before .before .before .before .before .before .pre .1)
 
-sub-room : tie.Need-sub-room
-sub-room c = omega (arith, c .before .before .before .before .before .before .before .before .before .before .before .before .before .smaller .ensures, c .before .before .before .before .before .before .before .before .before .before .before .before .smaller2 .ensures)
+sub-headroom : tie.Need-sub-headroom
+sub-headroom c = omega (arith, c .before .before .before .before .before .before .before .before .before .before .before .before .before .smaller .ensures, c .before .before .before .before .before .before .before .before .before .before .before .before .smaller2 .ensures)
 
-slice-write-room : tie.Need-slice-write-room
-slice-write-room c = omega (arith, c .before .before .before .before .before .before .before .before .before .before .before .before .before .before .before .before .before .before .before .before .before .before .before .pre .1)
+slice-write-headroom : tie.Need-slice-write-headroom
+slice-write-headroom c = omega (arith, c .before .before .before .before .before .before .before .before .before .before .before .before .before .before .before .before .before .before .before .before .before .before .before .pre .1)
 
 same-length-2 : tie.Need-same-length-2
 same-length-2 c = c .before .before .before .before .before .before .before .more .kept .1 .1 .0
@@ -77,10 +77,10 @@ fill-at-spec =
     same-length
     returns
     more-requires
-    mul-room
-    slice-read-room
-    sub-room
-    slice-write-room
+    mul-headroom
+    slice-read-headroom
+    sub-headroom
+    slice-write-headroom
     same-length-2
     same-length-3
     same-length-4

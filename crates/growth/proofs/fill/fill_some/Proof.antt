@@ -1,5 +1,5 @@
 -- `growth::fill::fill_some` meets its contract. The loop's invariant: the sets are right, and the spans are kept with what the column still wants as its
--- room. The measure is what is left to do. Assumes nothing.
+-- headroom. The measure is what is left to do. Assumes nothing.
 use Prim.Native.Nat.{_+_}
 use native.Mathlib.Omega.{arith}
 use mathlib.Core.Path.{_≡_, refl, _∙_}
@@ -12,10 +12,10 @@ use Rattle.growth.proofs.fill.fill_some.Statement.{statement}
 use Rattle.growth.proofs.fill.fill_some.Tie as tie
 
 abbrev Inv-loop : tie.InvT-loop
-Inv-loop n bound a₀ room₀ offers₀ takers₀ j some roomy left₀ todo₀ want₀ a room offers takers left todo want = (length a ≡ length a₀) × (length room ≡ length room₀) × (length offers ≡ length offers₀) × (length takers ≡ length takers₀) × Grew n bound a₀ room₀ a (set room (n + j) want) offers takers
+Inv-loop n bound a₀ headroom₀ offers₀ takers₀ j some open-rows left₀ todo₀ want₀ a headroom offers takers left todo want = (length a ≡ length a₀) × (length headroom ≡ length headroom₀) × (length offers ≡ length offers₀) × (length takers ≡ length takers₀) × Grew n bound a₀ headroom₀ a (set headroom (n + j) want) offers takers
 
 abbrev μ-loop : tie.MeasureT-loop
-μ-loop n bound a₀ room₀ offers₀ takers₀ j some roomy left₀ todo₀ want₀ a room offers takers left todo want = size n todo
+μ-loop n bound a₀ headroom₀ offers₀ takers₀ j some open-rows left₀ todo₀ want₀ a headroom offers takers left todo want = size n todo
 
 add-want : tie.Need-add-want Inv-loop μ-loop
 add-want c = omega (arith, c .before .before .before .before .before .pre .1, c .before .before .before .before .before .pre .0 .below .cells .nodes)
@@ -62,14 +62,14 @@ loop-less-2 c = left-falls _ _ (c .before .before .before .before .before .befor
 loop-again-2 : tie.Need-loop-again-2 Inv-loop μ-loop
 loop-again-2 c = (c .before .before .before .before .before .before .before .before .before .before .before .fill-at .kept .1 .1 .0 ∙ c .before .before .before .before .before .before .before .before .before .before .before .before .before .before .before .before .before .before .before .before .loop .inv .0, c .before .before .before .before .before .before .before .before .before .before .before .fill-at .kept .1 .1 .1 .0 ∙ c .before .before .before .before .before .before .before .before .before .before .before .before .before .before .before .before .before .before .before .before .loop .inv .1, c .before .before .before .before .before .before .before .before .before .before .before .fill-at .kept .1 .1 .1 .1 .0 ∙ c .before .before .before .before .before .before .before .before .before .before .before .before .before .before .before .before .before .before .before .before .loop .inv .2, c .before .before .before .before .before .before .before .before .before .before .before .fill-at .kept .1 .1 .1 .1 .1 .0 ∙ c .before .before .before .before .before .before .before .before .before .before .before .before .before .before .before .before .before .before .before .before .loop .inv .3, grew-given (c .before .before .before .before .before .before .before .before .before .before .before .before .before .before .before .before .before .if1 .left) (c .before .before .before .before .before .before .before .before .before .before .before .before .before .before .before .before .before .before .before .before .before .before .before .before .before .before .before .pre .1 .1) (omega (arith, c .before .before .before .before .before .before .before .before .before .before .before .before .before .before .before .before .before .before .before .before .before .before .before .before .before .before .before .pre .1 .0, c .before .before .before .before .before .before .before .before .before .before .before .before .before .before .before .before .before .before .before .before .loop .inv .1)) (c .before .before .before .before .before .before .before .before .before .before .before .before .before .before .before .before .before .before .before .before .loop .inv .4) (c .before .before .before .before .before .before .before .before .before .before .before .fill-at .ensures))
 
-add-room : tie.Need-add-room Inv-loop μ-loop
-add-room c = omega (arith, c .before .before .before .before .before .before .before .before .pre .1, c .before .before .before .before .before .before .before .before .pre .0 .below .cells .nodes)
+add-headroom : tie.Need-add-headroom Inv-loop μ-loop
+add-headroom c = omega (arith, c .before .before .before .before .before .before .before .before .pre .1, c .before .before .before .before .before .before .before .before .pre .0 .below .cells .nodes)
 
-mul-room : tie.Need-mul-room Inv-loop μ-loop
-mul-room c = omega (arith, c .before .before .before .before .before .before .before .before .pre .1, c .before .before .before .before .before .before .before .before .pre .0 .below .cells .nodes)
+mul-headroom : tie.Need-mul-headroom Inv-loop μ-loop
+mul-headroom c = omega (arith, c .before .before .before .before .before .before .before .before .pre .1, c .before .before .before .before .before .before .before .before .pre .0 .below .cells .nodes)
 
-slice-write-room : tie.Need-slice-write-room Inv-loop μ-loop
-slice-write-room c = omega (arith, c .before .before .before .before .before .before .before .before .pre .1, c .before .loop .inv .1)
+slice-write-headroom : tie.Need-slice-write-headroom Inv-loop μ-loop
+slice-write-headroom c = omega (arith, c .before .before .before .before .before .before .before .before .pre .1, c .before .loop .inv .1)
 
 same-length : tie.Need-same-length Inv-loop μ-loop
 same-length c = c .before .loop .inv .0
@@ -107,9 +107,9 @@ fill-some-spec =
     without-requires-2
     loop-less-2
     loop-again-2
-    add-room
-    mul-room
-    slice-write-room
+    add-headroom
+    mul-headroom
+    slice-write-headroom
     same-length
     same-length-2
     same-length-3

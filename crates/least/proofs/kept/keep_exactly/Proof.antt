@@ -6,8 +6,8 @@ use Rattle.least.proofs.Remains.{withdrawn-below}
 use Rattle.least.proofs.kept.keep_exactly.Statement.{statement}
 use Rattle.least.proofs.kept.keep_exactly.Tie as tie
 
-leave-requires : tie.Need-leave-requires
-leave-requires c κs = let pre = c .before .before .before .before .before .pre in
+subtract-requires : tie.Need-subtract-requires
+subtract-requires c κs = let pre = c .before .before .before .before .before .pre in
     ((pre .0 .demand, pre .0 .withdrawn), (pre .1, withdrawn-below (pre .0 .greatest .withdrawn)))
 
 slice-aggregate-line-sums : tie.Need-slice-aggregate-line-sums
@@ -15,27 +15,27 @@ slice-aggregate-line-sums c = search needs
 
 line-sums-requires : tie.Need-line-sums-requires
 line-sums-requires c κs = let pre = c .before .before .before .before .before .before .before .before .before .before .pre in
-    let leave = c .before .before .before .before .leave in
-    (left-square (pre .0) (leave .ensures), (left-demands (pre .0) (leave .ensures), omega (arith, pre .0 .demand .nodes)))
+    let subtract = c .before .before .before .before .subtract in
+    (left-square (pre .0) (subtract .ensures), (left-demands (pre .0) (subtract .ensures), omega (arith, pre .0 .demand .nodes)))
 
 slice-aggregate-share-lines : tie.Need-slice-aggregate-share-lines
 slice-aggregate-share-lines c = search needs
 
 share-lines-requires : tie.Need-share-lines-requires
 share-lines-requires c κs = let pre = c .before .before .before .before .before .before .before .before .before .before .before .before .before .before .pre in
-    can-share (pre .0) (c .before .before .before .before .before .before .before .before .leave .ensures) _ (omega (arith, pre .0 .demand .nodes, c .before .before .before .line-sums .kept .1 .1 .0)) (c .before .before .before .line-sums .ensures)
+    can-share (pre .0) (c .before .before .before .before .before .before .before .before .subtract .ensures) _ (omega (arith, pre .0 .demand .nodes, c .before .before .before .line-sums .kept .1 .1 .0)) (c .before .before .before .line-sums .ensures)
 
 same-length : tie.Need-same-length
 same-length c = search needs
 
 returns : tie.Need-returns
-returns c = kept-all (c .before .before .before .before .before .before .before .before .before .before .before .before .before .before .before .before .before .pre .0) (c .before .before .before .before .before .before .before .before .before .before .before .leave .ensures) _ (c .before .before .share-lines .ensures)
+returns c = kept-all (c .before .before .before .before .before .before .before .before .before .before .before .before .before .before .before .before .before .pre .0) (c .before .before .before .before .before .before .before .before .before .before .before .subtract .ensures) _ (c .before .before .share-lines .ensures)
 
 pub keep-exactly-spec : {M : Type 1} → statement M
 keep-exactly-spec =
     tie.close
     (tie.spec
-    leave-requires
+    subtract-requires
     slice-aggregate-line-sums
     line-sums-requires
     slice-aggregate-share-lines

@@ -7,7 +7,7 @@ use lib.ListN.{getD}
 use borrow.Author.Needs.{needs}
 use Rattle.sums.proofs.Sums.{sum-none, sum-more, sum-done}
 use Rattle.sums.specs.Sums.{sumTo, bit}
-use Rattle.least.specs.Promises.{larger}
+use Rattle.least.specs.Promises.{outranking}
 use Rattle.least.proofs.kept.rank.Statement.{statement}
 use Rattle.least.proofs.kept.rank.Tie as tie
 
@@ -20,20 +20,20 @@ abbrev μ-loop : tie.MeasureT-loop
 loop-holds : tie.Need-loop-holds Inv-loop μ-loop
 loop-holds c = (omega arith, sym (sum-none _), omega arith)
 
-mul-exceeds : tie.Need-mul-exceeds Inv-loop μ-loop
-mul-exceeds c = omega arith
+mul-outranks : tie.Need-mul-outranks Inv-loop μ-loop
+mul-outranks c = omega arith
 
-shared-slice-read-exceeds : tie.Need-shared-slice-read-exceeds Inv-loop μ-loop
-shared-slice-read-exceeds c = omega arith
+shared-slice-read-outranks : tie.Need-shared-slice-read-outranks Inv-loop μ-loop
+shared-slice-read-outranks c = omega arith
 
-mul-exceeds-2 : tie.Need-mul-exceeds-2 Inv-loop μ-loop
-mul-exceeds-2 c = omega arith
+mul-outranks-2 : tie.Need-mul-outranks-2 Inv-loop μ-loop
+mul-outranks-2 c = omega arith
 
-shared-slice-read-exceeds-2 : tie.Need-shared-slice-read-exceeds-2 Inv-loop μ-loop
-shared-slice-read-exceeds-2 c = omega arith
+shared-slice-read-outranks-2 : tie.Need-shared-slice-read-outranks-2 Inv-loop μ-loop
+shared-slice-read-outranks-2 c = omega arith
 
-exceeds-requires : tie.Need-exceeds-requires Inv-loop μ-loop
-exceeds-requires c κs = search needs
+outranks-requires : tie.Need-outranks-requires Inv-loop μ-loop
+outranks-requires c κs = search needs
 
 add-count : tie.Need-add-count Inv-loop μ-loop
 add-count c = omega arith
@@ -47,10 +47,10 @@ loop-less c = omega arith
 loop-again : tie.Need-loop-again Inv-loop μ-loop
 loop-again c = let args = c .before .before .before .before .before .before .args in
     let loop = c .before .before .before .before .loop in
-    (omega arith, omega (arith, c .exceeds .ensures .0, loop .inv .1, sum-more (loop .u) (λ w. bit (ltb (getD (args .claims .now) (args .t) 0) (getD (args .claims .now) w 0)))), omega arith)
+    (omega arith, omega (arith, c .outranks .ensures .0, loop .inv .1, sum-more (loop .u) (λ w. bit (ltb (getD (args .claims .now) (args .t) 0) (getD (args .claims .now) w 0)))), omega arith)
 
 returns : tie.Need-returns Inv-loop μ-loop
-unfolding larger
+unfolding outranking
 returns c = let loop = c .before .loop in
     let done : loop .u ≡ c .before .before .before .args .n = omega arith in sum-done _ done (loop .inv .1)
 
@@ -61,11 +61,11 @@ rank-spec =
     Inv-loop
     μ-loop
     loop-holds
-    mul-exceeds
-    shared-slice-read-exceeds
-    mul-exceeds-2
-    shared-slice-read-exceeds-2
-    exceeds-requires
+    mul-outranks
+    shared-slice-read-outranks
+    mul-outranks-2
+    shared-slice-read-outranks-2
+    outranks-requires
     add-count
     add-u
     loop-less

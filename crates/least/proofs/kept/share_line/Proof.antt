@@ -16,14 +16,14 @@ divide-requires : tie.Need-divide-requires
 divide-requires c κs = let pre = c .before .before .before .before .before .pre in
     (pre .0, ((pre .0 .square .nodes, pre .0 .square .nodes), pre .1))
 
-slice-aggregate-give : tie.Need-slice-aggregate-give
-slice-aggregate-give c = search needs
+slice-aggregate-give-shares : tie.Need-slice-aggregate-give-shares
+slice-aggregate-give-shares c = search needs
 
-slice-aggregate-give-2 : tie.Need-slice-aggregate-give-2
-slice-aggregate-give-2 c = search needs
+slice-aggregate-give-shares-2 : tie.Need-slice-aggregate-give-shares-2
+slice-aggregate-give-shares-2 c = search needs
 
-give-requires : tie.Need-give-requires
-give-requires c κs = let pre = c .before .before .before .before .before .before .before .before .before .before .before .pre in
+give-shares-requires : tie.Need-give-shares-requires
+give-shares-requires c κs = let pre = c .before .before .before .before .before .before .before .before .before .before .before .pre in
     let divide = c .before .before .before .before .before .divide in
     ((pre .0 .square, pre .0 .line), ((omega (arith, pre .0 .square .nodes, divide .kept), omega (arith, pre .0 .square .nodes, divide .kept)), λ t h. omega (arith, divide .ensures .each t h, share-most (pre .0) t h)))
 
@@ -31,7 +31,7 @@ same-length : tie.Need-same-length
 same-length c = search needs
 
 returns : tie.Need-returns
-returns c = rewritten-same _ _ _ _ _ _ (λ t h. divided-shares _ _ _ _ _ _ _ (c .before .before .before .before .before .before .before .before .before .before .before .before .before .before .pre .0 .square .nodes) (c .before .before .before .before .before .before .before .before .divide .ensures) t h) (c .before .before .give .ensures)
+returns c = rewritten-same _ _ _ _ _ _ (λ t h. divided-shares _ _ _ _ _ _ _ (c .before .before .before .before .before .before .before .before .before .before .before .before .before .before .pre .0 .square .nodes) (c .before .before .before .before .before .before .before .before .divide .ensures) t h) (c .before .before .give-shares .ensures)
 
 pub share-line-spec : {M : Type 1} → statement M
 share-line-spec =
@@ -40,8 +40,8 @@ share-line-spec =
     slice-aggregate-divide
     slice-aggregate-divide-2
     divide-requires
-    slice-aggregate-give
-    slice-aggregate-give-2
-    give-requires
+    slice-aggregate-give-shares
+    slice-aggregate-give-shares-2
+    give-shares-requires
     same-length
     returns)

@@ -1,7 +1,7 @@
 -- `withdraw` meets its contract: the largest matrix below D and the excesses is a greatest withdrawn one. Assumes nothing.
 use native.Mathlib.Omega.{arith}
 use borrow.Author.Needs.{needs}
-use Rattle.least.proofs.Withdrawals.{limits-fit, certified-is-withdrawn}
+use Rattle.least.proofs.Withdrawals.{ceilings-fit, certified-is-withdrawn}
 use Rattle.least.proofs.withdrawn.withdraw.Statement.{statement}
 use Rattle.least.proofs.withdrawn.withdraw.Tie as tie
 
@@ -14,12 +14,12 @@ slice-aggregate-excesses c = search needs
 excesses-requires : tie.Need-excesses-requires
 excesses-requires c κs = search needs
 
-array-borrow-prefix-limits : tie.Need-array-borrow-prefix-limits
-array-borrow-prefix-limits c = search needs
+array-borrow-prefix-ceilings : tie.Need-array-borrow-prefix-ceilings
+array-borrow-prefix-ceilings c = search needs
 
 slice-aggregate-largest : tie.Need-slice-aggregate-largest
 slice-aggregate-largest c = let args = c .before .before .before .before .before .before .before .before .args in
-    limits-fit (args .n) (args .cap .now) (args .demand .now) _ (c .before .before .excesses .ensures)
+    ceilings-fit (args .n) (args .cap .now) (args .demand .now) _ (c .before .before .excesses .ensures)
 
 largest-requires : tie.Need-largest-requires
 largest-requires c κs = let args = c .before .before .before .before .before .before .before .before .before .before .args in
@@ -28,7 +28,7 @@ largest-requires c κs = let args = c .before .before .before .before .before .b
       bounds = pre .demand;
       demands = pre .demands;
       cells = pre .withdrawn;
-      limits = omega (arith, limits-fit (args .n) (args .cap .now) (args .demand .now) _ (c .before .before .before .before .excesses .ensures));
+      ceilings = omega (arith, ceilings-fit (args .n) (args .cap .now) (args .demand .now) _ (c .before .before .before .before .excesses .ensures));
       lines = pre .lines;
     }
 
@@ -48,7 +48,7 @@ withdraw-spec =
     mul-lines
     slice-aggregate-excesses
     excesses-requires
-    array-borrow-prefix-limits
+    array-borrow-prefix-ceilings
     slice-aggregate-largest
     largest-requires
     same-length

@@ -23,7 +23,7 @@ byte-requires : tie.Need-byte-requires Inv-loop μ-loop
 byte-requires c κs = fits-to (climb-lists (c .before .before .before .before .before .before .before .before .before .before .before .before .pre) (c .before .before .before .before .put-byte .kept .0)) (c .before .loop .inv)
 
 meeting-requires : tie.Need-meeting-requires Inv-loop μ-loop
-meeting-requires c κs = (omega (arith, c .before .before .before .before .before .before .before .before .before .before .before .before .before .before .pre .offered, c .before .byte .ensures .0, here (climb-lists (c .before .before .before .before .before .before .before .before .before .before .before .before .before .before .pre) (c .before .before .before .before .before .before .put-byte .kept .0)) (c .before .before .before .loop .inv)), fits-rows (climb-lists (c .before .before .before .before .before .before .before .before .before .before .before .before .before .before .pre) (c .before .before .before .before .before .before .put-byte .kept .0)) (c .before .before .before .loop .inv))
+meeting-requires c κs = (omega (arith, c .before .before .before .before .before .before .before .before .before .before .before .before .before .before .pre .offers-room, c .before .byte .ensures .0, here (climb-lists (c .before .before .before .before .before .before .before .before .before .before .before .before .before .before .pre) (c .before .before .before .before .before .before .put-byte .kept .0)) (c .before .before .before .loop .inv)), fits-rows (climb-lists (c .before .before .before .before .before .before .before .before .before .before .before .before .before .before .pre) (c .before .before .before .before .before .before .put-byte .kept .0)) (c .before .before .before .loop .inv))
 
 leave-requires : tie.Need-leave-requires Inv-loop μ-loop
 leave-requires c κs = (fits-columns (climb-lists (c .before .before .before .before .before .before .before .before .before .before .before .before .before .before .before .before .before .pre) (c .before .before .before .before .before .before .before .before .before .put-byte .kept .0)) (c .before .before .before .before .before .before .loop .inv), omega (arith, c .before .before .before .before .byte .ensures .0, here (climb-lists (c .before .before .before .before .before .before .before .before .before .before .before .before .before .before .before .before .before .pre) (c .before .before .before .before .before .before .before .before .before .put-byte .kept .0)) (c .before .before .before .before .before .before .loop .inv), c .before .before .before .before .before .before .before .before .before .before .before .before .before .before .before .before .before .pre .lists .layers .nodes))
@@ -74,7 +74,7 @@ sub-meeting : tie.Need-sub-meeting Inv-loop μ-loop
 sub-meeting c = omega (arith, c .before .if3 .left)
 
 meeting-requires-2 : tie.Need-meeting-requires-2 Inv-loop μ-loop
-meeting-requires-2 c κs = (omega (arith, c .before .before .before .before .before .before .before .before .before .before .before .before .before .before .before .before .before .before .before .before .before .before .pre .taken, c .before .before .before .before .before .before .if1 .left), omega (arith, fits-columns (climb-lists (c .before .before .before .before .before .before .before .before .before .before .before .before .before .before .before .before .before .before .before .before .before .before .pre) (c .before .before .before .before .before .before .before .before .before .before .before .before .before .before .put-byte .kept .0)) (c .before .before .before .before .before .before .before .before .before .before .before .loop .inv)))
+meeting-requires-2 c κs = (omega (arith, c .before .before .before .before .before .before .before .before .before .before .before .before .before .before .before .before .before .before .before .before .before .before .pre .takers-room, c .before .before .before .before .before .before .if1 .left), omega (arith, fits-columns (climb-lists (c .before .before .before .before .before .before .before .before .before .before .before .before .before .before .before .before .before .before .before .before .before .before .pre) (c .before .before .before .before .before .before .before .before .before .before .before .before .before .before .put-byte .kept .0)) (c .before .before .before .before .before .before .before .before .before .before .before .loop .inv)))
 
 leave-requires-2 : tie.Need-leave-requires-2 Inv-loop μ-loop
 leave-requires-2 c κs = (fits-rows (climb-lists (c .before .before .before .before .before .before .before .before .before .before .before .before .before .before .before .before .before .before .before .before .before .before .before .before .before .pre) (c .before .before .before .before .before .before .before .before .before .before .before .before .before .before .before .before .before .put-byte .kept .0)) (c .before .before .before .before .before .before .before .before .before .before .before .before .before .before .loop .inv), omega (arith, c .before .before .before .before .before .before .before .before .before .if1 .left, c .before .before .before .before .before .before .before .before .before .before .before .before .before .before .before .before .before .before .before .before .before .before .before .before .before .pre .lists .layers .nodes))

@@ -6,10 +6,10 @@ use Rattle.walks.proofs.send.bottleneck.Statement.{statement}
 use Rattle.walks.proofs.send.bottleneck.Tie as tie
 
 abbrev Inv-loop : tie.InvT-loop
-Inv-loop n bound a room at to e last x₀ k₀ x k = Narrowing n bound a room at to e last x k
+Inv-loop n bound a headroom at to e last x₀ k₀ x k = Narrowing n bound a headroom at to e last x k
 
 abbrev μ-loop : tie.MeasureT-loop
-μ-loop n bound a room at to e last x₀ k₀ x k = k
+μ-loop n bound a headroom at to e last x₀ k₀ x k = k
 
 add-x : tie.Need-add-x Inv-loop μ-loop
 add-x c = omega (arith, c .before .before .before .before .before .pre .below .bounds .nodes, c .before .before .before .before .before .pre .path .column (c .before .before .before .before .before .args .last) (omega arith), c .before .before .before .before .before .pre .path .end')
@@ -18,7 +18,7 @@ mul-x : tie.Need-mul-x Inv-loop μ-loop
 mul-x c = omega (arith, c .before .before .before .before .before .pre .below .bounds .nodes, c .before .before .before .before .before .pre .path .column (c .before .before .before .before .before .args .last) (omega arith), c .before .before .before .before .before .pre .path .end')
 
 shared-slice-read-x : tie.Need-shared-slice-read-x Inv-loop μ-loop
-shared-slice-read-x c = omega (arith, c .before .before .before .before .before .before .pre .rooms, c .before .before .before .before .before .before .pre .path .column (c .before .before .before .before .before .before .args .last) (omega arith), c .before .before .before .before .before .before .pre .path .end')
+shared-slice-read-x c = omega (arith, c .before .before .before .before .before .before .pre .headrooms, c .before .before .before .before .before .before .pre .path .column (c .before .before .before .before .before .before .args .last) (omega arith), c .before .before .before .before .before .before .pre .path .end')
 
 loop-holds : tie.Need-loop-holds Inv-loop μ-loop
 loop-holds c = narrow-start (c .before .before .before .before .before .before .pre)
@@ -45,7 +45,7 @@ mul-smaller : tie.Need-mul-smaller Inv-loop μ-loop
 mul-smaller c = omega (arith, c .before .before .before .before .before .byte .ensures .1, c .before .before .before .before .byte2 .ensures .1)
 
 shared-slice-read-smaller : tie.Need-shared-slice-read-smaller Inv-loop μ-loop
-shared-slice-read-smaller c = omega (arith, c .before .before .before .before .before .before .byte .ensures .0, c .before .before .before .before .before .byte2 .ensures .0, c .before .before .before .before .before .before .before .before .before .before .before .before .before .before .pre .path .row (c .before .before .before .before .before .before .before .loop .k) (c .before .before .before .before .before .before .before .loop .inv .upto), c .before .before .before .before .before .before .before .before .before .before .before .before .before .before .pre .path .column (c .before .before .before .before .before .before .before .loop .k) (c .before .before .before .before .before .before .before .loop .inv .upto), c .before .before .before .before .before .before .before .before .before .before .before .before .before .before .pre .rooms)
+shared-slice-read-smaller c = omega (arith, c .before .before .before .before .before .before .byte .ensures .0, c .before .before .before .before .before .byte2 .ensures .0, c .before .before .before .before .before .before .before .before .before .before .before .before .before .before .pre .path .row (c .before .before .before .before .before .before .before .loop .k) (c .before .before .before .before .before .before .before .loop .inv .upto), c .before .before .before .before .before .before .before .before .before .before .before .before .before .before .pre .path .column (c .before .before .before .before .before .before .before .loop .k) (c .before .before .before .before .before .before .before .loop .inv .upto), c .before .before .before .before .before .before .before .before .before .before .before .before .before .before .pre .headrooms)
 
 smaller-requires-2 : tie.Need-smaller-requires-2 Inv-loop μ-loop
 smaller-requires-2 c κs = tt

@@ -1,20 +1,20 @@
--- `walks::walk::drain` meets its contract: something has gone, or the layers are those of the search. The rows' room and the nodes of the layers fall. Assumes nothing.
+-- `walks::walk::drain` meets its contract: something has gone, or the layers are those of the search. The rows' headroom and the nodes of the layers fall. Assumes nothing.
 use Prim.Native.Nat.{_+_}
 use native.Mathlib.Omega.{arith}
 use mathlib.Core.Path.{_≡_, refl, _∙_}
 use lib.ListN.{length}
 use borrow.Author.Tests.{not-true, not-false}
-use Rattle.growth.specs.Growth.{rowRoom}
+use Rattle.growth.specs.Growth.{rowHeadroom}
 use Rattle.walks.specs.Paths.{weight}
-use Rattle.walks.proofs.WalkLaws.{walk-climb, walked-none, walk-carry, walk-send, walk-spend, walked-sent, Draining, drain-start, drain-walk, drain-step, drain-end, lists-again}
+use Rattle.walks.proofs.WalkLaws.{walk-climb, walked-none, walk-passable, walk-send, walk-spend, walked-sent, Draining, drain-start, drain-walk, drain-step, drain-end, lists-again}
 use Rattle.walks.proofs.walk.drain.Statement.{statement}
 use Rattle.walks.proofs.walk.drain.Tie as tie
 
 abbrev Inv-loop : tie.InvT-loop
-Inv-loop n bound a₀ room₀ offers₀ takers₀ rows₀ columns₀ at₀ to₀ last a room offers takers rows columns at to = (length a ≡ length a₀) × (length room ≡ length room₀) × (length offers ≡ length offers₀) × (length takers ≡ length takers₀) × (length rows ≡ length rows₀) × (length columns ≡ length columns₀) × (length at ≡ length at₀) × (length to ≡ length to₀) × Draining n bound a₀ room₀ a room offers takers rows columns at to last
+Inv-loop n bound a₀ headroom₀ offers₀ takers₀ rows₀ columns₀ at₀ to₀ last a headroom offers takers rows columns at to = (length a ≡ length a₀) × (length headroom ≡ length headroom₀) × (length offers ≡ length offers₀) × (length takers ≡ length takers₀) × (length rows ≡ length rows₀) × (length columns ≡ length columns₀) × (length at ≡ length at₀) × (length to ≡ length to₀) × Draining n bound a₀ headroom₀ a headroom offers takers rows columns at to last
 
 abbrev μ-loop : tie.MeasureT-loop
-μ-loop n bound a₀ room₀ offers₀ takers₀ rows₀ columns₀ at₀ to₀ last a room offers takers rows columns at to = rowRoom n room + weight n rows columns last
+μ-loop n bound a₀ headroom₀ offers₀ takers₀ rows₀ columns₀ at₀ to₀ last a headroom offers takers rows columns at to = rowHeadroom n headroom + weight n rows columns last
 
 loop-holds : tie.Need-loop-holds Inv-loop μ-loop
 loop-holds c = (refl, refl, refl, refl, refl, refl, refl, refl, drain-start (c .before .before .before .before .before .before .before .before .before .pre))
@@ -53,12 +53,12 @@ returns : tie.Need-returns Inv-loop μ-loop
 returns c = drain-end (c .before .before .before .before .loop .inv .8) (rw (c .before .before .set-at .ensures) at (c .before .first .ensures)) (c .if1 .taken)
 
 climb-requires : tie.Need-climb-requires Inv-loop μ-loop
-climb-requires c κs = walk-climb (drain-walk (c .before .before .before .before .before .before .before .before .before .before .loop .inv .8) (rw (c .before .before .before .before .before .before .before .before .set-at .ensures) at (c .before .before .before .before .before .before .before .first .ensures)) (omega (arith, c .before .before .before .before .before .before .before .before .before .before .before .before .before .before .before .before .before .before .before .before .pre .rooms, c .before .before .before .before .before .before .before .before .before .before .loop .inv .1)) (c .before .before .before .before .before .before .if1 .left))
+climb-requires c κs = walk-climb (drain-walk (c .before .before .before .before .before .before .before .before .before .before .loop .inv .8) (rw (c .before .before .before .before .before .before .before .before .set-at .ensures) at (c .before .before .before .before .before .before .before .first .ensures)) (omega (arith, c .before .before .before .before .before .before .before .before .before .before .before .before .before .before .before .before .before .before .before .before .pre .headrooms, c .before .before .before .before .before .before .before .before .before .before .loop .inv .1)) (c .before .before .before .before .before .before .if1 .left))
 
 loop-less : tie.Need-loop-less Inv-loop μ-loop
 loop-less c = let inv = c .before .before .before .before .before .before .before .before .before .before .before .before .before .before .before .before .before .before .before .before .loop .inv .8 in
     let found = rw (c .before .before .before .before .before .before .before .before .before .before .before .before .before .before .before .before .before .before .set-at .ensures) at (c .before .before .before .before .before .before .before .before .before .before .before .before .before .before .before .before .before .first .ensures) in
-    let can = drain-walk inv found (omega (arith, c .before .before .before .before .before .before .before .before .before .before .before .before .before .before .before .before .before .before .before .before .before .before .before .before .before .before .before .before .before .before .pre .rooms, c .before .before .before .before .before .before .before .before .before .before .before .before .before .before .before .before .before .before .before .before .loop .inv .1)) (c .before .before .before .before .before .before .before .before .before .before .before .before .before .before .before .before .if1 .left) in
+    let can = drain-walk inv found (omega (arith, c .before .before .before .before .before .before .before .before .before .before .before .before .before .before .before .before .before .before .before .before .before .before .before .before .before .before .before .before .before .before .pre .headrooms, c .before .before .before .before .before .before .before .before .before .before .before .before .before .before .before .before .before .before .before .before .loop .inv .1)) (c .before .before .before .before .before .before .before .before .before .before .before .before .before .before .before .before .if1 .left) in
     let said = c .before .before .before .before .before .before .before .before .before .climb in
     let walked = walked-none can (said .ensures) (not-true _ (c .if2 .taken)) in
     walked .falls
@@ -66,7 +66,7 @@ loop-less c = let inv = c .before .before .before .before .before .before .befor
 loop-again : tie.Need-loop-again Inv-loop μ-loop
 loop-again c = let inv = c .before .before .before .before .before .before .before .before .before .before .before .before .before .before .before .before .before .before .before .before .loop .inv .8 in
     let found = rw (c .before .before .before .before .before .before .before .before .before .before .before .before .before .before .before .before .before .before .set-at .ensures) at (c .before .before .before .before .before .before .before .before .before .before .before .before .before .before .before .before .before .first .ensures) in
-    let can = drain-walk inv found (omega (arith, c .before .before .before .before .before .before .before .before .before .before .before .before .before .before .before .before .before .before .before .before .before .before .before .before .before .before .before .before .before .before .pre .rooms, c .before .before .before .before .before .before .before .before .before .before .before .before .before .before .before .before .before .before .before .before .loop .inv .1)) (c .before .before .before .before .before .before .before .before .before .before .before .before .before .before .before .before .if1 .left) in
+    let can = drain-walk inv found (omega (arith, c .before .before .before .before .before .before .before .before .before .before .before .before .before .before .before .before .before .before .before .before .before .before .before .before .before .before .before .before .before .before .pre .headrooms, c .before .before .before .before .before .before .before .before .before .before .before .before .before .before .before .before .before .before .before .before .loop .inv .1)) (c .before .before .before .before .before .before .before .before .before .before .before .before .before .before .before .before .if1 .left) in
     let said = c .before .before .before .before .before .before .before .before .before .climb in
     let walked = walked-none can (said .ensures) (not-true _ (c .if2 .taken)) in
     let lens = c .before .before .before .before .before .before .before .before .before .before .before .before .before .before .before .before .before .before .before .before .loop .inv in
@@ -75,14 +75,14 @@ loop-again c = let inv = c .before .before .before .before .before .before .befo
 bottleneck-requires : tie.Need-bottleneck-requires Inv-loop μ-loop
 bottleneck-requires c κs = let inv = c .before .before .before .before .before .before .before .before .before .before .before .before .before .before .before .before .before .before .before .before .before .before .before .before .loop .inv .8 in
     let found = rw (c .before .before .before .before .before .before .before .before .before .before .before .before .before .before .before .before .before .before .before .before .before .before .set-at .ensures) at (c .before .before .before .before .before .before .before .before .before .before .before .before .before .before .before .before .before .before .before .before .before .first .ensures) in
-    let can = drain-walk inv found (omega (arith, c .before .before .before .before .before .before .before .before .before .before .before .before .before .before .before .before .before .before .before .before .before .before .before .before .before .before .before .before .before .before .before .before .before .before .pre .rooms, c .before .before .before .before .before .before .before .before .before .before .before .before .before .before .before .before .before .before .before .before .before .before .before .before .loop .inv .1)) (c .before .before .before .before .before .before .before .before .before .before .before .before .before .before .before .before .before .before .before .before .if1 .left) in
+    let can = drain-walk inv found (omega (arith, c .before .before .before .before .before .before .before .before .before .before .before .before .before .before .before .before .before .before .before .before .before .before .before .before .before .before .before .before .before .before .before .before .before .before .pre .headrooms, c .before .before .before .before .before .before .before .before .before .before .before .before .before .before .before .before .before .before .before .before .before .before .before .before .loop .inv .1)) (c .before .before .before .before .before .before .before .before .before .before .before .before .before .before .before .before .before .before .before .before .if1 .left) in
     let said = c .before .before .before .before .before .before .before .before .before .before .before .before .before .climb in
-    walk-carry can (said .ensures) (not-false _ (c .before .before .before .before .if2 .left)) (said .kept .1 .1 .1 .1 .1 .0) (said .kept .1 .1 .1 .1 .1 .1 .0)
+    walk-passable can (said .ensures) (not-false _ (c .before .before .before .before .if2 .left)) (said .kept .1 .1 .1 .1 .1 .0) (said .kept .1 .1 .1 .1 .1 .1 .0)
 
 send-requires : tie.Need-send-requires Inv-loop μ-loop
 send-requires c κs = let inv = c .before .before .before .before .before .before .before .before .before .before .before .before .before .before .before .before .before .before .before .before .before .before .before .before .before .before .before .before .before .before .loop .inv .8 in
     let found = rw (c .before .before .before .before .before .before .before .before .before .before .before .before .before .before .before .before .before .before .before .before .before .before .before .before .before .before .before .before .set-at .ensures) at (c .before .before .before .before .before .before .before .before .before .before .before .before .before .before .before .before .before .before .before .before .before .before .before .before .before .before .before .first .ensures) in
-    let can = drain-walk inv found (omega (arith, c .before .before .before .before .before .before .before .before .before .before .before .before .before .before .before .before .before .before .before .before .before .before .before .before .before .before .before .before .before .before .before .before .before .before .before .before .before .before .before .before .pre .rooms, c .before .before .before .before .before .before .before .before .before .before .before .before .before .before .before .before .before .before .before .before .before .before .before .before .before .before .before .before .before .before .loop .inv .1)) (c .before .before .before .before .before .before .before .before .before .before .before .before .before .before .before .before .before .before .before .before .before .before .before .before .before .before .if1 .left) in
+    let can = drain-walk inv found (omega (arith, c .before .before .before .before .before .before .before .before .before .before .before .before .before .before .before .before .before .before .before .before .before .before .before .before .before .before .before .before .before .before .before .before .before .before .before .before .before .before .before .before .pre .headrooms, c .before .before .before .before .before .before .before .before .before .before .before .before .before .before .before .before .before .before .before .before .before .before .before .before .before .before .before .before .before .before .loop .inv .1)) (c .before .before .before .before .before .before .before .before .before .before .before .before .before .before .before .before .before .before .before .before .before .before .before .before .before .before .if1 .left) in
     let said = c .before .before .before .before .before .before .before .before .before .before .before .before .before .before .before .before .before .before .before .climb in
     walk-send can (said .ensures) (not-false _ (c .before .before .before .before .before .before .before .before .before .before .if2 .left)) (said .kept .1 .1 .1 .1 .1 .0) (said .kept .1 .1 .1 .1 .1 .1 .0) (c .before .before .before .before .before .bottleneck .ensures)
 
@@ -92,14 +92,14 @@ byte-requires c κs = omega (arith, c .before .before .before .before .before .b
 spend-requires : tie.Need-spend-requires Inv-loop μ-loop
 spend-requires c κs = let inv = c .before .before .before .before .before .before .before .before .before .before .before .before .before .before .before .before .before .before .before .before .before .before .before .before .before .before .before .before .before .before .before .before .before .before .before .before .before .before .before .before .before .before .loop .inv .8 in
     let found = rw (c .before .before .before .before .before .before .before .before .before .before .before .before .before .before .before .before .before .before .before .before .before .before .before .before .before .before .before .before .before .before .before .before .before .before .before .before .before .before .before .before .set-at .ensures) at (c .before .before .before .before .before .before .before .before .before .before .before .before .before .before .before .before .before .before .before .before .before .before .before .before .before .before .before .before .before .before .before .before .before .before .before .before .before .before .before .first .ensures) in
-    let can = drain-walk inv found (omega (arith, c .before .before .before .before .before .before .before .before .before .before .before .before .before .before .before .before .before .before .before .before .before .before .before .before .before .before .before .before .before .before .before .before .before .before .before .before .before .before .before .before .before .before .before .before .before .before .before .before .before .before .before .before .pre .rooms, c .before .before .before .before .before .before .before .before .before .before .before .before .before .before .before .before .before .before .before .before .before .before .before .before .before .before .before .before .before .before .before .before .before .before .before .before .before .before .before .before .before .before .loop .inv .1)) (c .before .before .before .before .before .before .before .before .before .before .before .before .before .before .before .before .before .before .before .before .before .before .before .before .before .before .before .before .before .before .before .before .before .before .before .before .before .before .if1 .left) in
+    let can = drain-walk inv found (omega (arith, c .before .before .before .before .before .before .before .before .before .before .before .before .before .before .before .before .before .before .before .before .before .before .before .before .before .before .before .before .before .before .before .before .before .before .before .before .before .before .before .before .before .before .before .before .before .before .before .before .before .before .before .before .pre .headrooms, c .before .before .before .before .before .before .before .before .before .before .before .before .before .before .before .before .before .before .before .before .before .before .before .before .before .before .before .before .before .before .before .before .before .before .before .before .before .before .before .before .before .before .loop .inv .1)) (c .before .before .before .before .before .before .before .before .before .before .before .before .before .before .before .before .before .before .before .before .before .before .before .before .before .before .before .before .before .before .before .before .before .before .before .before .before .before .if1 .left) in
     let said = c .before .before .before .before .before .before .before .before .before .before .before .before .before .before .before .before .before .before .before .before .before .before .before .before .before .before .before .before .before .before .before .climb in
     rw (c .byte .ensures .0) (walk-spend can (said .ensures) (not-false _ (c .before .before .before .before .before .before .before .before .before .before .before .before .before .before .before .before .before .before .before .before .before .before .if2 .left)) (said .kept .1 .1 .1 .1 .1 .0) (said .kept .1 .1 .1 .1 .1 .1 .0) (c .before .before .before .before .before .before .before .before .before .before .before .before .before .before .before .before .before .bottleneck .ensures) (said .kept .1 .1 .1 .0) (said .kept .1 .1 .1 .1 .0))
 
 loop-less-2 : tie.Need-loop-less-2 Inv-loop μ-loop
 loop-less-2 c = let inv = c .before .before .before .before .before .before .before .before .before .before .before .before .before .before .before .before .before .before .before .before .before .before .before .before .before .before .before .before .before .before .before .before .before .before .before .before .before .before .before .before .before .before .before .before .before .before .before .before .before .loop .inv .8 in
     let found = rw (c .before .before .before .before .before .before .before .before .before .before .before .before .before .before .before .before .before .before .before .before .before .before .before .before .before .before .before .before .before .before .before .before .before .before .before .before .before .before .before .before .before .before .before .before .before .before .before .set-at .ensures) at (c .before .before .before .before .before .before .before .before .before .before .before .before .before .before .before .before .before .before .before .before .before .before .before .before .before .before .before .before .before .before .before .before .before .before .before .before .before .before .before .before .before .before .before .before .before .before .first .ensures) in
-    let can = drain-walk inv found (omega (arith, c .before .before .before .before .before .before .before .before .before .before .before .before .before .before .before .before .before .before .before .before .before .before .before .before .before .before .before .before .before .before .before .before .before .before .before .before .before .before .before .before .before .before .before .before .before .before .before .before .before .before .before .before .before .before .before .before .before .before .before .pre .rooms, c .before .before .before .before .before .before .before .before .before .before .before .before .before .before .before .before .before .before .before .before .before .before .before .before .before .before .before .before .before .before .before .before .before .before .before .before .before .before .before .before .before .before .before .before .before .before .before .before .before .loop .inv .1)) (c .before .before .before .before .before .before .before .before .before .before .before .before .before .before .before .before .before .before .before .before .before .before .before .before .before .before .before .before .before .before .before .before .before .before .before .before .before .before .before .before .before .before .before .before .before .if1 .left) in
+    let can = drain-walk inv found (omega (arith, c .before .before .before .before .before .before .before .before .before .before .before .before .before .before .before .before .before .before .before .before .before .before .before .before .before .before .before .before .before .before .before .before .before .before .before .before .before .before .before .before .before .before .before .before .before .before .before .before .before .before .before .before .before .before .before .before .before .before .before .pre .headrooms, c .before .before .before .before .before .before .before .before .before .before .before .before .before .before .before .before .before .before .before .before .before .before .before .before .before .before .before .before .before .before .before .before .before .before .before .before .before .before .before .before .before .before .before .before .before .before .before .before .before .loop .inv .1)) (c .before .before .before .before .before .before .before .before .before .before .before .before .before .before .before .before .before .before .before .before .before .before .before .before .before .before .before .before .before .before .before .before .before .before .before .before .before .before .before .before .before .before .before .before .before .if1 .left) in
     let said = c .before .before .before .before .before .before .before .before .before .before .before .before .before .before .before .before .before .before .before .before .before .before .before .before .before .before .before .before .before .before .before .before .before .before .before .before .before .before .climb in
     let goes = c .before .before .before .before .before .before .before .before .before .before .before .before .before .before .before .before .before .before .before .before .before .before .before .before .bottleneck .ensures in
     let spends = walk-spend can (said .ensures) (not-false _ (c .before .before .before .before .before .before .before .before .before .before .before .before .before .before .before .before .before .before .before .before .before .before .before .before .before .before .before .before .before .if2 .left)) (said .kept .1 .1 .1 .1 .1 .0) (said .kept .1 .1 .1 .1 .1 .1 .0) goes (said .kept .1 .1 .1 .0) (said .kept .1 .1 .1 .1 .0) in
@@ -110,7 +110,7 @@ loop-less-2 c = let inv = c .before .before .before .before .before .before .bef
 loop-again-2 : tie.Need-loop-again-2 Inv-loop μ-loop
 loop-again-2 c = let inv = c .before .before .before .before .before .before .before .before .before .before .before .before .before .before .before .before .before .before .before .before .before .before .before .before .before .before .before .before .before .before .before .before .before .before .before .before .before .before .before .before .before .before .before .before .before .before .before .before .before .loop .inv .8 in
     let found = rw (c .before .before .before .before .before .before .before .before .before .before .before .before .before .before .before .before .before .before .before .before .before .before .before .before .before .before .before .before .before .before .before .before .before .before .before .before .before .before .before .before .before .before .before .before .before .before .before .set-at .ensures) at (c .before .before .before .before .before .before .before .before .before .before .before .before .before .before .before .before .before .before .before .before .before .before .before .before .before .before .before .before .before .before .before .before .before .before .before .before .before .before .before .before .before .before .before .before .before .before .first .ensures) in
-    let can = drain-walk inv found (omega (arith, c .before .before .before .before .before .before .before .before .before .before .before .before .before .before .before .before .before .before .before .before .before .before .before .before .before .before .before .before .before .before .before .before .before .before .before .before .before .before .before .before .before .before .before .before .before .before .before .before .before .before .before .before .before .before .before .before .before .before .before .pre .rooms, c .before .before .before .before .before .before .before .before .before .before .before .before .before .before .before .before .before .before .before .before .before .before .before .before .before .before .before .before .before .before .before .before .before .before .before .before .before .before .before .before .before .before .before .before .before .before .before .before .before .loop .inv .1)) (c .before .before .before .before .before .before .before .before .before .before .before .before .before .before .before .before .before .before .before .before .before .before .before .before .before .before .before .before .before .before .before .before .before .before .before .before .before .before .before .before .before .before .before .before .before .if1 .left) in
+    let can = drain-walk inv found (omega (arith, c .before .before .before .before .before .before .before .before .before .before .before .before .before .before .before .before .before .before .before .before .before .before .before .before .before .before .before .before .before .before .before .before .before .before .before .before .before .before .before .before .before .before .before .before .before .before .before .before .before .before .before .before .before .before .before .before .before .before .before .pre .headrooms, c .before .before .before .before .before .before .before .before .before .before .before .before .before .before .before .before .before .before .before .before .before .before .before .before .before .before .before .before .before .before .before .before .before .before .before .before .before .before .before .before .before .before .before .before .before .before .before .before .before .loop .inv .1)) (c .before .before .before .before .before .before .before .before .before .before .before .before .before .before .before .before .before .before .before .before .before .before .before .before .before .before .before .before .before .before .before .before .before .before .before .before .before .before .before .before .before .before .before .before .before .if1 .left) in
     let said = c .before .before .before .before .before .before .before .before .before .before .before .before .before .before .before .before .before .before .before .before .before .before .before .before .before .before .before .before .before .before .before .before .before .before .before .before .before .before .climb in
     let goes = c .before .before .before .before .before .before .before .before .before .before .before .before .before .before .before .before .before .before .before .before .before .before .before .before .bottleneck .ensures in
     let spends = walk-spend can (said .ensures) (not-false _ (c .before .before .before .before .before .before .before .before .before .before .before .before .before .before .before .before .before .before .before .before .before .before .before .before .before .before .before .before .before .if2 .left)) (said .kept .1 .1 .1 .1 .1 .0) (said .kept .1 .1 .1 .1 .1 .1 .0) goes (said .kept .1 .1 .1 .0) (said .kept .1 .1 .1 .1 .0) in

@@ -1,35 +1,35 @@
--- `walks::walk::spend` meets its contract: the two rooms have places of their own. Assumes nothing.
+-- `walks::walk::spend` meets its contract: the headroom of the row and that of the column have places of their own. Assumes nothing.
 use native.Mathlib.Omega.{arith}
 use Rattle.walks.proofs.WalkLaws.{spent-law, rest-fits, rest-most, spent-len, spent-fits}
 use Rattle.walks.proofs.walk.spend.Statement.{statement}
 use Rattle.walks.proofs.walk.spend.Tie as tie
 
-mul-room : tie.Need-mul-room
-mul-room c = omega (arith, c .before .before .before .pre .row, c .before .before .before .pre .few)
+mul-headroom : tie.Need-mul-headroom
+mul-headroom c = omega (arith, c .before .before .before .pre .row, c .before .before .before .pre .few)
 
-slice-read-room : tie.Need-slice-read-room
-slice-read-room c = omega (arith, c .before .before .before .before .pre .row, c .before .before .before .before .pre .rooms)
+slice-read-headroom : tie.Need-slice-read-headroom
+slice-read-headroom c = omega (arith, c .before .before .before .before .pre .row, c .before .before .before .before .pre .headrooms)
 
-sub-room : tie.Need-sub-room
-sub-room c = omega (arith, c .before .before .before .before .pre .start)
+sub-headroom : tie.Need-sub-headroom
+sub-headroom c = omega (arith, c .before .before .before .before .pre .start)
 
-slice-write-room : tie.Need-slice-write-room
-slice-write-room c = omega (arith, c .before .before .before .before .pre .row, c .before .before .before .before .pre .rooms)
+slice-write-headroom : tie.Need-slice-write-headroom
+slice-write-headroom c = omega (arith, c .before .before .before .before .pre .row, c .before .before .before .before .pre .headrooms)
 
-add-room : tie.Need-add-room
-add-room c = omega (arith, c .before .before .before .before .pre .column, c .before .before .before .before .pre .few)
+add-headroom : tie.Need-add-headroom
+add-headroom c = omega (arith, c .before .before .before .before .pre .column, c .before .before .before .before .pre .few)
 
-mul-room-2 : tie.Need-mul-room-2
-mul-room-2 c = omega (arith, c .before .before .before .before .pre .column, c .before .before .before .before .pre .few)
+mul-headroom-2 : tie.Need-mul-headroom-2
+mul-headroom-2 c = omega (arith, c .before .before .before .before .pre .column, c .before .before .before .before .pre .few)
 
-slice-read-room-2 : tie.Need-slice-read-room-2
-slice-read-room-2 c = rest-fits (c .before .before .before .before .before .pre)
+slice-read-headroom-2 : tie.Need-slice-read-headroom-2
+slice-read-headroom-2 c = rest-fits (c .before .before .before .before .before .pre)
 
-sub-room-2 : tie.Need-sub-room-2
-sub-room-2 c = rest-most (c .before .before .before .before .before .pre)
+sub-headroom-2 : tie.Need-sub-headroom-2
+sub-headroom-2 c = rest-most (c .before .before .before .before .before .pre)
 
-slice-write-room-2 : tie.Need-slice-write-room-2
-slice-write-room-2 c = rest-fits (c .before .before .before .before .before .pre)
+slice-write-headroom-2 : tie.Need-slice-write-headroom-2
+slice-write-headroom-2 c = rest-fits (c .before .before .before .before .before .pre)
 
 mul-leave-if-none : tie.Need-mul-leave-if-none
 mul-leave-if-none c = omega (arith, c .before .before .before .before .before .before .pre .row, c .before .before .before .before .before .before .pre .few)
@@ -68,15 +68,15 @@ pub spend-spec : {M : Type 1} → statement M
 spend-spec =
     tie.close
     (tie.spec
-    mul-room
-    slice-read-room
-    sub-room
-    slice-write-room
-    add-room
-    mul-room-2
-    slice-read-room-2
-    sub-room-2
-    slice-write-room-2
+    mul-headroom
+    slice-read-headroom
+    sub-headroom
+    slice-write-headroom
+    add-headroom
+    mul-headroom-2
+    slice-read-headroom-2
+    sub-headroom-2
+    slice-write-headroom-2
     mul-leave-if-none
     slice-read-leave-if-none
     leave-if-none-requires

@@ -1,4 +1,4 @@
--- `leave` meets its contract. The loop's invariant: the cells passed hold E, the others are as before. Assumes nothing.
+-- `subtract` meets its contract. The loop's invariant: the cells passed hold E, the others are as before. Assumes nothing.
 use Prim.Native.Nat.{_≤_, _-_, _*_}
 use native.Mathlib.Omega.{arith}
 use mathlib.Core.List.{_++_}
@@ -8,8 +8,8 @@ use borrow.Author.Needs.{needs}
 use Rattle.sums.proofs.Tables.{tab-more}
 use Rattle.sums.specs.Tables.{tab}
 use Rattle.least.proofs.Remains.{left-written}
-use Rattle.least.proofs.kept.leave.Statement.{statement}
-use Rattle.least.proofs.kept.leave.Tie as tie
+use Rattle.least.proofs.kept.subtract.Statement.{statement}
+use Rattle.least.proofs.kept.subtract.Tie as tie
 
 abbrev Inv-loop : tie.InvT-loop
 Inv-loop n demand withdrawn table₀ cells p₀ table p = (p ≤ n * n) × (cells ≡ n * n) × (length table ≡ length table₀) × (table ≡ tab p (λ q. getD demand q 0 - getD withdrawn q 0) ++ drop p table₀)
@@ -62,8 +62,8 @@ same-length c = search needs
 returns : tie.Need-returns Inv-loop μ-loop
 returns c = c .before .loop .inv .3 ∙ left-written _ _ _ _ _ (omega arith) (c .before .before .pre .1 .0)
 
-pub leave-spec : {M : Type 1} → statement M
-leave-spec =
+pub subtract-spec : {M : Type 1} → statement M
+subtract-spec =
     tie.close
     (tie.spec
     Inv-loop

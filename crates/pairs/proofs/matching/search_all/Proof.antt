@@ -1,10 +1,10 @@
--- `pairs::all::search_all` meets its contract: each way pairs one destination more, and a failed search shows why there is none. Assumes nothing.
+-- `pairs::matching::search_all` meets its contract: each way pairs one destination more, and a failed search shows why there is none. Assumes nothing.
 use native.Mathlib.Omega.{arith}
 use mathlib.Core.Path.{_∙_}
 use Rattle.nodes.specs.Sets.{size}
 use Rattle.pairs.proofs.Matches.{Working, work-start, work-search, work-flip, work-flipped, work-falls, work-end}
-use Rattle.pairs.proofs.all.search_all.Statement.{statement}
-use Rattle.pairs.proofs.all.search_all.Tie as tie
+use Rattle.pairs.proofs.matching.search_all.Statement.{statement}
+use Rattle.pairs.proofs.matching.search_all.Tie as tie
 
 abbrev Inv-loop : tie.InvT-loop
 Inv-loop n may source₀ destination₀ next₀ sources₀ destinations₀ source destination next sources destinations = Working n may source₀ destination₀ next₀ source destination next sources destinations

@@ -1,4 +1,4 @@
--- `give` meets its contract. The loop's invariant: the cells of the line that were passed are rewritten, those off the line are as before.
+-- `give_shares` meets its contract. The loop's invariant: the cells of the line that were passed are rewritten, those off the line are as before.
 -- Assumes nothing.
 use Prim.Native.Nat.{_≤_, _-_, _+_}
 use native.Mathlib.Omega.{arith}
@@ -7,13 +7,13 @@ use lib.Dec.{ltb}
 use lib.ListN.{length, getD}
 use borrow.Author.Needs.{needs}
 use Rattle.sums.specs.Sums.{bit}
-use Rattle.least.specs.Promises.{larger}
+use Rattle.least.specs.Promises.{outranking}
 use Rattle.least.proofs.Rewritings.{Rewriting, rewriting-none, rewriting-more, rewriting-all}
-use Rattle.least.proofs.kept.give.Statement.{statement}
-use Rattle.least.proofs.kept.give.Tie as tie
+use Rattle.least.proofs.kept.give_shares.Statement.{statement}
+use Rattle.least.proofs.kept.give_shares.Tie as tie
 
 abbrev Inv-loop : tie.InvT-loop
-Inv-loop n table₀ line shares claims missing t₀ table t = (t ≤ n) × (length table ≡ length table₀) × (Rewriting n line (λ u. getD shares u 0 + bit (ltb (larger n claims u) missing)) t table₀ table)
+Inv-loop n table₀ line shares claims missing t₀ table t = (t ≤ n) × (length table ≡ length table₀) × (Rewriting n line (λ u. getD shares u 0 + bit (ltb (outranking n claims u) missing)) t table₀ table)
 
 abbrev μ-loop : tie.MeasureT-loop
 μ-loop n table₀ line shares claims missing t₀ table t = n - t
@@ -55,8 +55,8 @@ same-length c = search needs
 returns : tie.Need-returns Inv-loop μ-loop
 returns c = rewriting-all _ _ _ _ _ _ (omega arith) (c .before .loop .inv .2)
 
-pub give-spec : {M : Type 1} → statement M
-give-spec =
+pub give-shares-spec : {M : Type 1} → statement M
+give-shares-spec =
     tie.close
     (tie.spec
     Inv-loop

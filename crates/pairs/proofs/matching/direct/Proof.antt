@@ -1,10 +1,10 @@
--- `pairs::all::direct` meets its contract: the free destinations passed may hear no free source. Assumes nothing.
+-- `pairs::matching::direct` meets its contract: the free destinations passed may hear no free source. Assumes nothing.
 use native.Mathlib.Omega.{arith}
 use borrow.Author.Needs.{needs}
 use Rattle.nodes.specs.Sets.{size}
 use Rattle.pairs.proofs.Matches.{Directing, direct-start, direct-end, direct-falls, direct-skip, direct-pair}
-use Rattle.pairs.proofs.all.direct.Statement.{statement}
-use Rattle.pairs.proofs.all.direct.Tie as tie
+use Rattle.pairs.proofs.matching.direct.Statement.{statement}
+use Rattle.pairs.proofs.matching.direct.Tie as tie
 
 abbrev Inv-loop : tie.InvT-loop
 Inv-loop n may source₀ destination₀ sources₀ destinations₀ todo₀ source destination sources destinations todo = Directing n may source₀ destination₀ source destination sources destinations todo

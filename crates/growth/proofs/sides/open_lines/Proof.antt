@@ -1,17 +1,17 @@
--- `growth::sides::roomy` meets its contract: the set is right for the lines looked at, and has no other. Assumes nothing.
+-- `growth::sides::open_lines` meets its contract: the set is right for the lines looked at, and has no other. Assumes nothing.
 use Prim.Native.Nat.{_+_, _-_, _≤_}
 use native.Mathlib.Omega.{arith}
 use lib.ListN.{getD}
 use borrow.Author.Tests.{ltb-true, ltb-false}
 use Rattle.growth.proofs.SetLaws.{Scan, scan-start, scan-step}
-use Rattle.growth.proofs.sides.roomy.Statement.{statement}
-use Rattle.growth.proofs.sides.roomy.Tie as tie
+use Rattle.growth.proofs.sides.open_lines.Statement.{statement}
+use Rattle.growth.proofs.sides.open_lines.Tie as tie
 
 abbrev Inv-loop : tie.InvT-loop
-Inv-loop n room from s₀ k₀ s k = (k ≤ n) × Scan (λ m. getD room (from + m) 0) s k
+Inv-loop n headroom from s₀ k₀ s k = (k ≤ n) × Scan (λ m. getD headroom (from + m) 0) s k
 
 abbrev μ-loop : tie.MeasureT-loop
-μ-loop n room from s₀ k₀ s k = n - k
+μ-loop n headroom from s₀ k₀ s k = n - k
 
 none-requires : tie.Need-none-requires Inv-loop μ-loop
 none-requires c κs = tt
@@ -38,13 +38,13 @@ loop-less : tie.Need-loop-less Inv-loop μ-loop
 loop-less c = omega arith
 
 loop-again : tie.Need-loop-again Inv-loop μ-loop
-loop-again c = (omega arith, scan-step _ _ _ _ _ (c .before .before .before .loop .inv .1) (λ e. ltb-true 0 _ e) (λ e. omega (arith, ltb-false 0 (getD (c .before .before .before .before .before .before .args .room .now) (c .before .before .before .before .before .before .args .from + c .before .before .before .loop .k) 0) e)) (c .with-where .ensures))
+loop-again c = (omega arith, scan-step _ _ _ _ _ (c .before .before .before .loop .inv .1) (λ e. ltb-true 0 _ e) (λ e. omega (arith, ltb-false 0 (getD (c .before .before .before .before .before .before .args .headroom .now) (c .before .before .before .before .before .before .args .from + c .before .before .before .loop .k) 0) e)) (c .with-where .ensures))
 
 returns : tie.Need-returns Inv-loop μ-loop
 returns c = record { members = λ k hk. c .before .loop .inv .1 .done k (omega arith); within = record { beyond = λ k hk. c .before .loop .inv .1 .rest k (omega arith) } }
 
-pub roomy-spec : {M : Type 1} → statement M
-roomy-spec =
+pub open-lines-spec : {M : Type 1} → statement M
+open-lines-spec =
     tie.close
     (tie.spec
     Inv-loop

@@ -1,8 +1,8 @@
--- `pairs::all::match_all` meets its contract: the two steps one after the other. Assumes nothing.
+-- `pairs::matching::match_all` meets its contract: the two steps one after the other. Assumes nothing.
 use native.Mathlib.Omega.{arith}
 use borrow.Author.Needs.{needs}
-use Rattle.pairs.proofs.all.match_all.Statement.{statement}
-use Rattle.pairs.proofs.all.match_all.Tie as tie
+use Rattle.pairs.proofs.matching.match_all.Statement.{statement}
+use Rattle.pairs.proofs.matching.match_all.Tie as tie
 
 direct-requires : tie.Need-direct-requires
 direct-requires c κs = search needs

@@ -1,4 +1,4 @@
--- `slacks::fill` meets its contract: the loop has written the slacks of the lines passed from the front, each from its sum. Assumes nothing.
+-- `slacks::write_slacks` meets its contract: the loop has written the slacks of the lines passed from the front, each from its sum. Assumes nothing.
 use Prim.Native.Nat.{_≤_, _<_, _*_, _-_, _+_}
 use native.Mathlib.Omega.{arith}
 use mathlib.Core.List.{_++_}
@@ -13,8 +13,8 @@ use Rattle.sums.proofs.Tables.{tab-more}
 use Rattle.sums.specs.Tables.{tab, written}
 use Rattle.star.specs.Lines.{slack}
 use Rattle.star.proofs.LineLaws.{line-most}
-use Rattle.slacks.proofs.fill.Statement.{statement}
-use Rattle.slacks.proofs.fill.Tie as tie
+use Rattle.slacks.proofs.write_slacks.Statement.{statement}
+use Rattle.slacks.proofs.write_slacks.Tie as tie
 
 abbrev Inv-loop : tie.InvT-loop
 Inv-loop n cap demand table₀ sums lines line₀ table line = (line ≤ 2 * n) × (lines ≡ 2 * n) × (length table ≡ length table₀) × (table ≡ tab line (slack n cap demand) ++ drop line table₀)
@@ -83,8 +83,8 @@ returns c = let args = c .before .before .before .before .before .before .before
     let done : c .before .loop .line ≡ 2 * args .n = omega arith in
     c .before .loop .inv .3 ∙ ap (λ x. tab x (slack (args .n) (args .cap .now) (args .demand .now)) ++ drop x (args .table .now)) done
 
-pub fill-spec : {M : Type 1} → statement M
-fill-spec =
+pub write-slacks-spec : {M : Type 1} → statement M
+write-slacks-spec =
     tie.close
     (tie.spec
     Inv-loop

@@ -1,10 +1,10 @@
--- `slots::writing::write` meets its contract: the slots passed hold the bytes, and nothing else has changed. Assumes nothing.
+-- `slots::writing::write_slots` meets its contract: the slots passed hold the bytes, and nothing else has changed. Assumes nothing.
 use Prim.Native.Nat.{_-_}
 use native.Mathlib.Omega.{arith}
 use Rattle.arrays.proofs.Stores.{frame-kept, frame-slot}
 use Rattle.slots.proofs.WriteLaws.{Filling, fill-start, fill-step, fill-end}
-use Rattle.slots.proofs.writing.write.Statement.{statement}
-use Rattle.slots.proofs.writing.write.Tie as tie
+use Rattle.slots.proofs.writing.write_slots.Statement.{statement}
+use Rattle.slots.proofs.writing.write_slots.Tie as tie
 
 abbrev Inv-loop : tie.InvT-loop
 Inv-loop n schedule₀ bytes from to k₀ schedule k = Filling n schedule₀ schedule bytes from to k
@@ -33,8 +33,8 @@ same-length c = c .before .loop .inv .len
 returns : tie.Need-returns Inv-loop μ-loop
 returns c = fill-end (c .before .loop .inv) (c .loop-test .left)
 
-pub write-spec : {M : Type 1} → statement M
-write-spec =
+pub write-slots-spec : {M : Type 1} → statement M
+write-slots-spec =
     tie.close
     (tie.spec
     Inv-loop

@@ -1,10 +1,10 @@
--- `idle::largest` meets its contract: no sum passed is above the number, and the number is one of them or 0. Assumes nothing.
+-- `idle::largest_sum` meets its contract: no sum passed is above the number, and the number is one of them or 0. Assumes nothing.
 use Prim.Native.Nat.{_*_, _-_}
 use native.Mathlib.Omega.{arith}
 use borrow.Author.Needs.{needs}
 use Rattle.idle.proofs.Pads.{Topping, top-step}
-use Rattle.idle.proofs.largest.Statement.{statement}
-use Rattle.idle.proofs.largest.Tie as tie
+use Rattle.idle.proofs.largest_sum.Statement.{statement}
+use Rattle.idle.proofs.largest_sum.Tie as tie
 
 abbrev Inv-loop : tie.InvT-loop
 Inv-loop n sums most₀ line₀ most line = Topping n sums most line
@@ -13,7 +13,7 @@ abbrev μ-loop : tie.MeasureT-loop
 μ-loop n sums most₀ line₀ most line = 2 * n - line
 
 loop-holds : tie.Need-loop-holds Inv-loop μ-loop
-loop-holds c = record { within = omega arith; above = λ ℓ lt. absurd (omega arith); least = λ b h. omega arith }
+loop-holds c = record { within = omega arith; above = λ ℓ lt. absurd (omega arith); tight = λ b h. omega arith }
 
 mul-loop : tie.Need-mul-loop Inv-loop μ-loop
 mul-loop c = omega arith
@@ -37,10 +37,10 @@ loop-again : tie.Need-loop-again Inv-loop μ-loop
 loop-again c = top-step (c .before .before .before .loop .inv) (c .before .before .loop-test .taken) (c .larger .ensures)
 
 returns : tie.Need-returns Inv-loop μ-loop
-returns c = record { above = λ ℓ lt. c .before .loop .inv .above ℓ (omega arith); least = c .before .loop .inv .least }
+returns c = record { above = λ ℓ lt. c .before .loop .inv .above ℓ (omega arith); tight = c .before .loop .inv .tight }
 
-pub largest-spec : {M : Type 1} → statement M
-largest-spec =
+pub largest-sum-spec : {M : Type 1} → statement M
+largest-sum-spec =
     tie.close
     (tie.spec
     Inv-loop
