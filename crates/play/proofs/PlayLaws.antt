@@ -16,11 +16,12 @@ use Rattle.star.specs.declared.refusals.Verdict.{Verdict}
 use Rattle.star.specs.declared.refusals.Verdict.the-variants.{Accepted, Refused}
 use Rattle.star.specs.Checks.{Ranges}
 use Rattle.planner.specs.declared.answers.Answer.{Answer}
-use Rattle.planner.specs.Plans.{verdictOf}
+use Rattle.planner.specs.Plans.{verdictOf, Lent}
 use Rattle.calls.specs.declared.record.Run.{Run}
-use Rattle.calls.specs.Runs.{freshRun, Freshened, postRun, Posted, frameRun, Framed}
-use Rattle.run.specs.Held.{held, FreshCall, PostCall, FrameCall}
-use Rattle.run.specs.Histories.{Event, posting, framing, restarting, started, continued, postsOf, framesOf, whether, BooksHold}
+use Rattle.calls.specs.Held.{Held, held, freshRun, postRun, frameRun, recordAfter}
+use Rattle.calls.specs.Runs.{Freshened, Posted, Framed}
+use Rattle.calls.proofs.Outcomes.{accepted-record}
+use Rattle.run.specs.Histories.{Event, posting, framing, restarting, outcome, Happens, started, continued, postsOf, framesOf, whether, BooksHold}
 use Rattle.run.specs.Theorems.{Callable}
 use Rattle.run.proofs.CallLaws.{fresh-theorems, post-theorems}
 use Rattle.run.proofs.FrameLaws.{frame-theorems}
@@ -54,47 +55,47 @@ tab-snoc : {A : Type 0} (m : ℕ) (f : ℕ → A) → tab (m + 1) f ≡ tab m f 
 unfolding tab
 tab-snoc m f = rw add-one refl
 
-pub frame-played : {old : Run} {w p s d kept withdrawn schedule w' s' kept' withdrawn' schedule' : List ℕ} {r : Answer} →
-    Framed old w p s d kept withdrawn schedule w' s' kept' withdrawn' schedule' r → length kept ≡ 4096 → length withdrawn ≡ 4096 → length schedule ≡ 65536 → FramePlayed old w p s d w' s'
-frame-played {kept = kept} {withdrawn = withdrawn} {schedule = schedule} {kept' = kept'} {withdrawn' = withdrawn'} {schedule' = schedule'} {r = r} f lk lw ls = record {
-  lent = record { kept = kept; withdrawn = withdrawn; schedule = schedule };
-  plan = record { kept = kept'; withdrawn = withdrawn'; schedule = schedule' };
+pub frame-played : {h : Held} {beside : Run → Held} (lent plan : Lent) (r : Answer) → Framed lent plan h (beside (recordAfter (verdictOf r) (frameRun (h .run)) (h .run))) r →
+    length (lent .kept) ≡ 4096 → length (lent .withdrawn) ≡ 4096 → length (lent .schedule) ≡ 65536 → FramePlayed h beside
+frame-played lent plan r f lk lw ls = record {
+  lent = lent;
+  plan = plan;
   r = r;
-  tables = f;
+  framed = f;
   long-kept = le-of-eq (sym lk);
   long-withdrawn = le-of-eq (sym lw);
   long-schedule = le-of-eq (sym ls);
 }
 
-module _ {file : List ℕ} {e : ℕ} {run : Run} {w p s d : List ℕ} (c : CanPlay file e run w p s d) where
+module _ {file : List ℕ} {e : ℕ} {h : Held} (c : CanPlay file e h) where
   pub can-sound : Sound file
   can-sound = accepted-sound file (c .good)
 
-  books : BooksHold (nodesOf file) (slotsOf file) (limitOf file) (ruleOf file) (c .played .events) (held run w p s d)
+  books : BooksHold (nodesOf file) (slotsOf file) (limitOf file) (ruleOf file) (c .played .events) h
   books = books-hold (c .played .history)
 
-  callable : Callable (held run w p s d)
+  callable : Callable h
   callable = always-callable (c .played .history)
 
-  pub can-nodes : run .nodes ≡ nodesOf file
+  pub can-nodes : h .run .nodes ≡ nodesOf file
   can-nodes = books .nodes
 
-  module _ (h : e < entriesOf file) where
+  module _ (in-table : e < entriesOf file) where
     few : length (told (c .played .events)) ≤ 4096
     few = omega (arith, ap length (c .played .entries), length-tab (entryOf file) e, can-sound .table .few)
 
-    pub few-posts : run .posts < 1000000
+    pub few-posts : h .run .posts < 1000000
     few-posts = omega (arith, few, books .posts, posts-few (c .played .events))
 
-    pub few-frames : run .frames < 1000000
+    pub few-frames : h .run .frames < 1000000
     few-frames = omega (arith, few, books .frames, frames-few (c .played .events))
 
     -- a post's matrix lies in the file
-    pub post-within : kindOf file e ≡ 0 → placeOf file e + 2 * (run .nodes * run .nodes) ≤ length file
-    post-within z = rw can-nodes (can-sound .entries e h .high z)
+    pub post-within : kindOf file e ≡ 0 → placeOf file e + 2 * (h .run .nodes * h .run .nodes) ≤ length file
+    post-within z = rw can-nodes (can-sound .entries e in-table .high z)
 
     -- the post's event is the file's entry
-    post-entry : kindOf file e ≡ 0 → post (matrixAt (run .nodes) file (placeOf file e)) ≡ entryOf file e
+    post-entry : kindOf file e ≡ 0 → post (matrixAt (h .run .nodes) file (placeOf file e)) ≡ entryOf file e
     unfolding entryOf
     post-entry z = ap (λ n. post (matrixAt n file (placeOf file e))) can-nodes ∙ sym (ap (λ k. cond k (post (matrixAt (nodesOf file) file (placeOf file e))) frame) (eq-eqb (kindOf file e) 0 z))
 
@@ -102,83 +103,76 @@ module _ {file : List ℕ} {e : ℕ} {run : Run} {w p s d : List ℕ} (c : CanPl
     unfolding entryOf
     frame-entry z = sym (ap (λ k. cond k (post (matrixAt (nodesOf file) file (placeOf file e))) frame) (ne-eqb (kindOf file e) 0 z))
 
-    module _ {w' p' d' : List ℕ} (q : PostPlayed file (placeOf file e) run w p s d w' p' d') where
-      post-call : (new : Run) → new ≡ postRun run (q .v) → PostCall (matrixAt (run .nodes) file (placeOf file e)) (held run w p s d) (held new w' p' s d') (q .v)
-      post-call new is = record { tables = q .tables; record' = is; same-sent = refl }
-
-      whole : run .nodes * run .nodes ≤ length (matrixAt (run .nodes) file (placeOf file e))
-      unfolding matrixAt
-      whole = le-of-eq (sym (length-tab (λ k. two file (placeOf file e + 2 * k)) (run .nodes * run .nodes)))
-
-      post-accepted : q .v ≡ Accepted
-      post-accepted = post-theorems .accepts (matrixAt (run .nodes) file (placeOf file e)) (held run w p s d) _ (q .v) (post-call _ refl) callable whole (q .within .most) few-posts
-
-      pub played-post : {new : Run} → kindOf file e ≡ 0 → new ≡ postRun run Accepted → Played file (e + 1) (held new w' p' s d')
-      unfolding told
-      played-post {new} z is =
-          record {
-            events = posting (matrixAt (run .nodes) file (placeOf file e)) (q .v) ∷ c .played .events;
-            history = continued (posting (matrixAt (run .nodes) file (placeOf file e)) (q .v)) (c .played .events) (held run w p s d) (held new w' p' s d') (c .played .history) (post-call new (is ∙ ap (postRun run) (sym post-accepted)));
-            entries = ap₂ (λ x y. x ++ (y ∷ [])) (c .played .entries) (post-entry z) ∙ sym (tab-snoc e (entryOf file));
-            accepted = more (posting (matrixAt (run .nodes) file (placeOf file e)) (q .v)) (c .played .events) post-accepted (c .played .accepted);
-          }
-
-    module _ {w' s' : List ℕ} (q : FramePlayed run w p s d w' s') where
-      frame-call : (new : Run) → new ≡ frameRun run (verdictOf (q .r)) →
-          FrameCall (q .lent .kept) (q .lent .withdrawn) (q .lent .schedule) (q .plan .kept) (q .plan .withdrawn) (q .plan .schedule) (held run w p s d) (held new w' p s' d) (q .r)
-      frame-call new is = record { tables = q .tables; record' = is; same-posted = refl; same-dropped = refl }
-
-      frame-accepted : verdictOf (q .r) ≡ Accepted
-      frame-accepted =
-          let cells = mul-small (run .nodes) (run .nodes) (callable .ranges .nodes) (callable .ranges .nodes) in
-          let bytes : run .slots * run .nodes ≤ 1024 * 64 = mul-le-mul (callable .ranges .slots) (callable .ranges .nodes) in
-          frame-theorems .accepts _ _ _ _ _ _ _ _ (q .r) (frame-call _ refl) callable (omega (arith, cells, q .long-kept)) (omega (arith, cells, q .long-withdrawn)) (omega (arith, bytes, q .long-schedule)) few-frames
-
-      pub played-frame : {new : Run} → (kindOf file e ≡ 0 → ⊥) → new ≡ frameRun run Accepted → Played file (e + 1) (held new w' p s' d)
-      unfolding told
-      played-frame {new} z is =
-          record {
-            events = framing (q .lent) (q .plan) (q .r) ∷ c .played .events;
-            history = continued (framing (q .lent) (q .plan) (q .r)) (c .played .events) (held run w p s d) (held new w' p s' d) (c .played .history) (frame-call new (is ∙ ap (frameRun run) (sym frame-accepted)));
-            entries = ap₂ (λ x y. x ++ (y ∷ [])) (c .played .entries) (frame-entry z) ∙ sym (tab-snoc e (entryOf file));
-            accepted = more (framing (q .lent) (q .plan) (q .r)) (c .played .events) frame-accepted (c .played .accepted);
-          }
-
--- a post of the cells read from the file
-pub post-played : {file : List ℕ} {at : ℕ} {old : Run} {w p s d w' p' d' table : List ℕ} (was : List ℕ) {v : Verdict} →
-    table ≡ written (old .nodes * old .nodes) (tab (old .nodes * old .nodes) (λ c. two file (at + 2 * c))) was → ((c : ℕ) → c < old .nodes * old .nodes → two file (at + 2 * c) ≤ 65535) →
-    Posted old (take (old .nodes * old .nodes) table) w p s d w' p' d' v → PostPlayed file at old w p s d w' p' d'
-unfolding matrixAt
-post-played {file} {at} {old} {w} {p} {s} {d} {w'} {p'} {d'} {table} was {v} is small t =
-    let cut : take (old .nodes * old .nodes) table ≡ matrixAt (old .nodes) file at
-    = ap (take (old .nodes * old .nodes)) is ∙ written-first (old .nodes * old .nodes) (tab (old .nodes * old .nodes) (λ c. two file (at + 2 * c))) was (length-tab (λ c. two file (at + 2 * c)) (old .nodes * old .nodes)) in
-    record {
-      v = v;
-      tables = subst (λ a. Posted old a w p s d w' p' d' v) cut t;
-      within = record { most = λ k h. omega (arith, tab-at (λ c. two file (at + 2 * c)) (old .nodes * old .nodes) k 0 h, small k h) };
+    -- an accepted event more
+    lengthened : {h' : Held} (next : Event) → outcome next ≡ Accepted → Happens next h h' → told (next ∷ c .played .events) ≡ told (c .played .events) ++ (entryOf file e ∷ []) → Played file (e + 1) h'
+    lengthened {h'} next ok happens tells = record {
+      events = next ∷ c .played .events;
+      history = continued next (c .played .events) h h' (c .played .history) happens;
+      entries = tells ∙ ap (λ x. x ++ (entryOf file e ∷ [])) (c .played .entries) ∙ sym (tab-snoc e (entryOf file));
+      accepted = more next (c .played .events) ok (c .played .accepted);
     }
 
-pub played-post-at : {file : List ℕ} {e at : ℕ} {run new : Run} {w p s d w' p' d' : List ℕ} → CanPlay file e run w p s d → e < entriesOf file → kindOf file e ≡ 0 → at ≡ placeOf file e →
-    PostPlayed file at run w p s d w' p' d' → new ≡ postRun run Accepted → Played file (e + 1) (held new w' p' s d')
-played-post-at {file} {e} {at} {run} {new} {w} {p} {s} {d} {w'} {p'} {d'} c h z there q is = played-post c h (subst (λ x. PostPlayed file x run w p s d w' p' d') there q) z is
+    module _ {beside : Run → Held} where
+      pub played-post : {new : Run} → PostPlayed file (placeOf file e) h beside → kindOf file e ≡ 0 → new ≡ postRun (h .run) → Played file (e + 1) (beside new)
+      unfolding told matrixAt
+      played-post q z is =
+          let arrivals = matrixAt (h .run .nodes) file (placeOf file e) in
+          let whole = le-of-eq (sym (length-tab (λ k. two file (placeOf file e + 2 * k)) (h .run .nodes * h .run .nodes))) in
+          let ok = post-theorems .accepts arrivals h _ (q .v) (q .posted) callable whole (q .within .most) few-posts in
+          lengthened (posting arrivals (q .v)) ok
+          (subst (λ r. Posted arrivals h (beside r) (q .v)) (accepted-record (postRun (h .run)) (h .run) ok ∙ sym is) (q .posted))
+          (ap (λ x. told (c .played .events) ++ (x ∷ [])) (post-entry z))
+
+      pub played-frame : {new : Run} → FramePlayed h beside → (kindOf file e ≡ 0 → ⊥) → new ≡ frameRun (h .run) → Played file (e + 1) (beside new)
+      unfolding told
+      played-frame q z is =
+          let sizes = callable .ranges .sizes in
+          let cells = mul-small (h .run .nodes) (h .run .nodes) (sizes .nodes) (sizes .nodes) in
+          let bytes : h .run .slots * h .run .nodes ≤ 1024 * 64 = mul-le-mul (sizes .slots) (sizes .nodes) in
+          let room = record { kept = omega (arith, cells, q .long-kept); withdrawn = omega (arith, cells, q .long-withdrawn); schedule = omega (arith, bytes, q .long-schedule) } in
+          let ok = frame-theorems .accepts (q .lent) (q .plan) h _ (q .r) (q .framed) callable room few-frames in
+          lengthened (framing (q .lent) (q .plan) (q .r)) ok
+          (subst (λ r. Framed (q .lent) (q .plan) h (beside r) (q .r)) (accepted-record (frameRun (h .run)) (h .run) ok ∙ sym is) (q .framed))
+          (ap (λ x. told (c .played .events) ++ (x ∷ [])) (frame-entry z))
+
+-- a post of the cells read from the file
+pub post-played : {file : List ℕ} {at : ℕ} {h : Held} {beside : Run → Held} {table : List ℕ} (was : List ℕ) (v : Verdict) →
+    table ≡ written (h .run .nodes * h .run .nodes) (tab (h .run .nodes * h .run .nodes) (λ c. two file (at + 2 * c))) was →
+    ((c : ℕ) → c < h .run .nodes * h .run .nodes → two file (at + 2 * c) ≤ 65535) →
+    Posted (take (h .run .nodes * h .run .nodes) table) h (beside (recordAfter v (postRun (h .run)) (h .run))) v → PostPlayed file at h beside
+unfolding matrixAt
+post-played {file} {at} {h} {beside} {table} was v is small t =
+    let cells = h .run .nodes * h .run .nodes in
+    let cut : take cells table ≡ matrixAt (h .run .nodes) file at
+    = ap (take cells) is ∙ written-first cells (tab cells (λ c. two file (at + 2 * c))) was (length-tab (λ c. two file (at + 2 * c)) cells) in
+    record {
+      v = v;
+      posted = subst (λ a. Posted a h (beside (recordAfter v (postRun (h .run)) (h .run))) v) cut t;
+      within = record { most = λ k lt. omega (arith, tab-at (λ c. two file (at + 2 * c)) cells k 0 lt, small k lt) };
+    }
+
+pub played-post-at : {file : List ℕ} {e at : ℕ} {h : Held} {new : Run} {beside : Run → Held} → CanPlay file e h → e < entriesOf file → kindOf file e ≡ 0 → at ≡ placeOf file e →
+    PostPlayed file at h beside → new ≡ postRun (h .run) → Played file (e + 1) (beside new)
+played-post-at {file} {h = h} {beside = beside} c in-table z there q is = played-post c in-table (subst (λ x. PostPlayed file x h beside) there q) z is
 
 -- ---- the start
-module _ (file : List ℕ) {n l limit rule : ℕ} {old start : Run} {w p s d w' p' s' d' : List ℕ} {v : Verdict} (good : readVerdict file ≡ Accepted) (hn : n ≡ nodesOf file) (hl : l ≡ slotsOf file) (hb : limit ≡ limitOf file) (hr : rule ≡ ruleOf file) (rooms : LargeTables w p s d) (f : Freshened old n l limit rule w p s d w' p' s' d' v) (is : start ≡ freshRun old n l limit rule Accepted) where
-  fresh-call : (new : Run) → new ≡ freshRun old n l limit rule v → FreshCall n l limit rule (held old w p s d) (held new w' p' s' d') v
-  fresh-call new e = record { tables = f; record' = e }
-
+module _ (file : List ℕ) {n l limit rule : ℕ} {h : Held} {start : Run} {waiting posted sent dropped : List ℕ} {v : Verdict} (good : readVerdict file ≡ Accepted) (hn : n ≡ nodesOf file) (hl : l ≡ slotsOf file) (hb : limit ≡ limitOf file) (hr : rule ≡ ruleOf file)
+    (rooms : LargeTables (h .waiting) (h .posted) (h .sent) (h .dropped)) (f : Freshened n l limit rule h (held (recordAfter v (freshRun n l limit rule) (h .run)) waiting posted sent dropped) v) (is : start ≡ freshRun n l limit rule) where
   fresh-accepted : v ≡ Accepted
   fresh-accepted =
       let ranges : Ranges n l rule limit = rw (hn, hl, hb, hr) (accepted-sound file good .ranges) in
-      let cells = mul-small n n (ranges .nodes) (ranges .nodes) in
-      fresh-theorems .accepts n l limit rule _ _ v (fresh-call _ refl) ranges (record { waiting = omega (arith, cells, rooms .queues); posted = omega (arith, cells, rooms .postings); sent = omega (arith, cells, rooms .sendings); dropped = omega (arith, cells, rooms .drops) })
+      let cells = mul-small n n (ranges .sizes .nodes) (ranges .sizes .nodes) in
+      fresh-theorems .accepts n l limit rule h _ v f ranges (record { waiting = omega (arith, cells, rooms .queues); posted = omega (arith, cells, rooms .postings); sent = omega (arith, cells, rooms .sendings); dropped = omega (arith, cells, rooms .drops) })
 
-  first-call : FreshCall (nodesOf file) (slotsOf file) (limitOf file) (ruleOf file) (held old w p s d) (held start w' p' s' d') Accepted
-  first-call = rw (fresh-accepted, hn, hl, hb, hr) at (fresh-call start (is ∙ ap (freshRun old n l limit rule) (sym fresh-accepted)))
+  first-call : Freshened (nodesOf file) (slotsOf file) (limitOf file) (ruleOf file) h (held start waiting posted sent dropped) Accepted
+  first-call =
+      rw (hn, hl, hb, hr) at
+      (subst (Freshened n l limit rule h (held start waiting posted sent dropped)) fresh-accepted
+      (subst (λ r. Freshened n l limit rule h (held r waiting posted sent dropped) v) (accepted-record (freshRun n l limit rule) (h .run) fresh-accepted ∙ sym is) f))
 
-  pub can-start : CanPlay file 0 start w' p' s' d'
+  pub can-start : CanPlay file 0 (held start waiting posted sent dropped)
   unfolding told tab
   can-start = record {
     good = good;
-    played = record { events = []; history = started (held old w p s d) (held start w' p' s' d') first-call; entries = refl; accepted = none };
+    played = record { events = []; history = started h (held start waiting posted sent dropped) first-call; entries = refl; accepted = none };
   }

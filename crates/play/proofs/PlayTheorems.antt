@@ -13,11 +13,11 @@ use Rattle.star.specs.declared.refusals.Verdict.{Verdict}
 use Rattle.star.specs.declared.refusals.Verdict.the-variants.{Accepted}
 use Rattle.star.proofs.RefusalLaws.{never}
 use Rattle.planner.specs.declared.answers.Answer.{Answer}
-use Rattle.planner.specs.Plans.{verdictOf}
+use Rattle.planner.specs.Plans.{verdictOf, Lent, LentRoom}
+use Rattle.calls.specs.Held.{Held, HeldAlike}
+use Rattle.calls.specs.Runs.{Freshened, Posted, Framed}
 use Rattle.calls.proofs.Verdicts.{fresh-accepted, post-accepted, frame-accepted}
-use Rattle.run.specs.Held.{Held, LongEnough, FreshCall, PostCall, FrameCall}
-use Rattle.run.specs.Histories.{Lent, Event, posting, framing, restarting, History, started, continued, whether, arrived}
-use Rattle.run.specs.Theorems.{HeldAlike}
+use Rattle.run.specs.Histories.{Event, posting, framing, restarting, History, started, continued, whether, arrived}
 use Rattle.run.proofs.CallLaws.{fresh-theorems, post-theorems}
 use Rattle.run.proofs.FrameLaws.{frame-theorems}
 use Rattle.run.proofs.HistoryLaws.{books-hold}
@@ -51,35 +51,27 @@ post-no-frame e = let z : _≡_ {A = ℕ} 0 1 = cc in omega arith
 
 module _ {n l limit rule : ℕ} (fair : rule ≡ 0) where
   -- an accepted fresh start was lent tables that are long enough
-  fresh-long : {h h' : Held} → FreshCall n l limit rule h h' Accepted → LongEnough n h
-  fresh-long {h} a =
-      let t = fresh-accepted n l limit rule (h .waiting) (h .posted) (h .sent) (h .dropped) (sym (a .tables .answer)) .1 in
-      record { waiting = t .queues .cells; posted = t .postings .cells; sent = t .sendings .cells; dropped = t .drops .cells }
+  same-start : {h h' g g' : Held} → Freshened n l limit rule h h' Accepted → Freshened n l limit rule g g' Accepted → HeldAlike n h' g'
+  same-start {h} {h'} {g} {g'} a b =
+      fresh-theorems .needed n l limit rule h h' g g' Accepted Accepted a b (fresh-accepted n l limit rule h (sym (a .answer)) .1) (fresh-accepted n l limit rule g (sym (b .answer)) .1) .1 refl
 
-  same-start : {h h' k k' : Held} → FreshCall n l limit rule h h' Accepted → FreshCall n l limit rule k k' Accepted → HeldAlike n h' k'
-  same-start {h} {h'} {k} {k'} a b = fresh-theorems .needed n l limit rule h h' k k' Accepted Accepted a b (fresh-long a) (fresh-long b) .1 refl
-
-  module _ {es : List Event} {h k : Held} (past : History n l limit rule es h) (s : HeldAlike n h k) where
+  module _ {es : List Event} {h g : Held} (past : History n l limit rule es h) (s : HeldAlike n h g) where
     here : h .run .nodes ≡ n
     here = books-hold past .nodes
 
-    alike : HeldAlike (h .run .nodes) h k
-    alike = subst (λ m. HeldAlike m h k) (sym here) s
+    alike : HeldAlike (h .run .nodes) h g
+    alike = subst (λ m. HeldAlike m h g) (sym here) s
 
-    same-post : {h' k' : Held} {a : List ℕ} {v u : Verdict} → PostCall a h h' v → PostCall a k k' u → v ≡ Accepted → HeldAlike n h' k'
-    same-post {h'} {k'} {a} {v} {u} x y ok =
-        let cells = post-accepted (h .run) a (h .waiting) (h .posted) (h .sent) (h .dropped) (sym (x .tables .answer) ∙ ok) .given .cells in
-        subst (λ m. HeldAlike m h' k') here (post-theorems .needed a a h h' k k' v u x y (record { first-room = cells; second-room = cells; cells = refl }) alike .1)
+    same-post : {h' g' : Held} {a : List ℕ} {v u : Verdict} → Posted a h h' v → Posted a g g' u → v ≡ Accepted → HeldAlike n h' g'
+    same-post {h'} {g'} {a} {v} {u} x y ok =
+        let cells = post-accepted a h (sym (x .answer) ∙ ok) .given .cells in
+        subst (λ m. HeldAlike m h' g') here (post-theorems .needed a a h h' g g' v u x y (record { first-room = cells; second-room = cells; cells = refl }) alike .1)
 
-    same-frame : {h' k' : Held} {lent plan given made : Lent} {r t : Answer} →
-        FrameCall (lent .kept) (lent .withdrawn) (lent .schedule) (plan .kept) (plan .withdrawn) (plan .schedule) h h' r →
-        FrameCall (given .kept) (given .withdrawn) (given .schedule) (made .kept) (made .withdrawn) (made .schedule) k k' t →
-        verdictOf r ≡ Accepted → verdictOf t ≡ Accepted → HeldAlike n h' k'
-    same-frame {h'} {k'} {lent} {plan} {given} {made} {r} {t} x y ok ko =
-        let f = frame-accepted (h .run) (h .waiting) (h .posted) (h .sent) (h .dropped) _ _ _ (sym (x .tables .answer) ∙ ok) in
-        let g = frame-accepted (k .run) (k .waiting) (k .posted) (k .sent) (k .dropped) _ _ _ (sym (y .tables .answer) ∙ ko) in
-        let one = frame-theorems .needed (lent .kept) (lent .withdrawn) (lent .schedule) (plan .kept) (plan .withdrawn) (plan .schedule) (given .kept) (given .withdrawn) (given .schedule) (made .kept) (made .withdrawn) (made .schedule) h h' k k' r t x y alike (f .kept-room, f .withdrawn-room, f .schedule-room) (rw (s .run) (g .kept-room, g .withdrawn-room, g .schedule-room)) in
-        subst (λ m. HeldAlike m h' k') here (one .fair-cells ok (books-hold past .rules ∙ fair) .0)
+    same-frame : {h' g' : Held} {lent plan given made : Lent} {r t : Answer} → Framed lent plan h h' r → Framed given made g g' t → verdictOf r ≡ Accepted → verdictOf t ≡ Accepted → HeldAlike n h' g'
+    same-frame {h'} {g'} {lent} {plan} {given} {made} {r} {t} x y ok ko =
+        let one = frame-accepted h lent (sym (x .answer) ∙ ok) .tables in
+        let other = subst (λ run. LentRoom (run .nodes) (run .slots) given) (sym (s .run)) (frame-accepted g given (sym (y .answer) ∙ ko) .tables) in
+        subst (λ m. HeldAlike m h' g') here (frame-theorems .needed lent plan given made h h' g g' r t x y alike one other .fair-held ok (books-hold past .rules ∙ fair))
 
   pub same-held : (es fs : List Event) (h k : Held) → History n l limit rule es h → History n l limit rule fs k → told es ≡ told fs → AllAccepted es → AllAccepted fs → HeldAlike n h k
   unfolding told
@@ -90,7 +82,7 @@ module _ {n l limit rule : ℕ} (fair : rule ≡ 0) where
   same-held (posting a v ∷ es) (restarting n' l' limit' rule' x' ∷ fs) h k p q e x (more _ _ y ys) = absurd (never y)
   same-held (framing lent plan r ∷ es) (restarting n' l' limit' rule' x' ∷ fs) h k p q e x (more _ _ y ys) = absurd (never y)
   same-held (posting a v ∷ es) (posting b u ∷ fs) h k (continued _ _ h₀ _ p c) (continued _ _ k₀ _ q d) e (more _ _ x xs) (more _ _ y ys) =
-      same-post p (same-held es fs h₀ k₀ p q (snoc-front (told es) (told fs) (post a) (post b) e) xs ys) c (subst (λ t. PostCall t k₀ k u) (sym (same-entry (snoc-last (told es) (told fs) (post a) (post b) e))) d) x
+      same-post p (same-held es fs h₀ k₀ p q (snoc-front (told es) (told fs) (post a) (post b) e) xs ys) c (subst (λ t. Posted t k₀ k u) (sym (same-entry (snoc-last (told es) (told fs) (post a) (post b) e))) d) x
   same-held (framing lent plan r ∷ es) (framing given made t ∷ fs) h k (continued _ _ h₀ _ p c) (continued _ _ k₀ _ q d) e (more _ _ x xs) (more _ _ y ys) =
       same-frame p (same-held es fs h₀ k₀ p q (snoc-front (told es) (told fs) frame frame e) xs ys) {lent = lent} {plan = plan} {given = given} {made = made} c d x y
   same-held (posting a v ∷ es) (framing given made t ∷ fs) h k p q e x y = absurd (post-no-frame {x = a} (snoc-last (told es) (told fs) (post a) frame e))

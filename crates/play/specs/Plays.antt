@@ -8,10 +8,11 @@ use Rattle.star.specs.declared.refusals.Verdict.{Verdict}
 use Rattle.star.specs.declared.refusals.Verdict.the-variants.{Accepted}
 use Rattle.star.specs.Tables.{Demands}
 use Rattle.planner.specs.declared.answers.Answer.{Answer}
+use Rattle.planner.specs.Plans.{verdictOf, Lent}
 use Rattle.calls.specs.declared.record.Run.{Run}
+use Rattle.calls.specs.Held.{Held, postRun, frameRun, recordAfter}
 use Rattle.calls.specs.Runs.{Posted, Framed}
-use Rattle.run.specs.Held.{Held, held}
-use Rattle.run.specs.Histories.{Lent, Event, posting, framing, restarting, outcome, History}
+use Rattle.run.specs.Histories.{Event, posting, framing, restarting, outcome, History}
 use Rattle.files.specs.Format.{nodesOf, slotsOf, limitOf, ruleOf, Entry, post, frame, entryOf, matrixAt}
 use Rattle.files.specs.Reading.{readVerdict}
 
@@ -36,9 +37,9 @@ pub record Played (file : List ℕ) (count : ℕ) (h : Held) : Type 0 where
   pub accepted : AllAccepted events
 
 -- an accepted file, whose first entries are played
-pub record CanPlay (file : List ℕ) (count : ℕ) (run : Run) (waiting posted sent dropped : List ℕ) : Type 0 where
+pub record CanPlay (file : List ℕ) (count : ℕ) (h : Held) : Type 0 where
   pub good : readVerdict file ≡ Accepted
-  pub played : Played file count (held run waiting posted sent dropped)
+  pub played : Played file count h
 
 -- tables long enough for 64 nodes
 pub record LargeTables (waiting posted sent dropped : List ℕ) : Type 0 where
@@ -47,18 +48,18 @@ pub record LargeTables (waiting posted sent dropped : List ℕ) : Type 0 where
   pub sendings : 4096 ≤ length sent
   pub drops : 4096 ≤ length dropped
 
--- a post of the matrix at this place, and its verdict
-pub record PostPlayed (file : List ℕ) (at : ℕ) (old : Run) (waiting posted sent dropped waiting' posted' dropped' : List ℕ) : Type 0 where
+-- a post of the matrix at this place, and its verdict; what is held then beside a record
+pub record PostPlayed (file : List ℕ) (at : ℕ) (h : Held) (beside : Run → Held) : Type 0 where
   pub v : Verdict
-  pub tables : Posted old (matrixAt (old .nodes) file at) waiting posted sent dropped waiting' posted' dropped' v
-  pub within : Demands (old .nodes) (matrixAt (old .nodes) file at)
+  pub posted : Posted (matrixAt (h .run .nodes) file at) h (beside (recordAfter v (postRun (h .run)) (h .run))) v
+  pub within : Demands (h .run .nodes) (matrixAt (h .run .nodes) file at)
 
--- a frame, the tables lent to it, what they then hold, and its answer
-pub record FramePlayed (old : Run) (waiting posted sent dropped waiting' sent' : List ℕ) : Type 0 where
+-- a frame, the tables lent to it, what they then hold, and its answer; what is held then beside a record
+pub record FramePlayed (h : Held) (beside : Run → Held) : Type 0 where
   pub lent : Lent
   pub plan : Lent
   pub r : Answer
-  pub tables : Framed old waiting posted sent dropped (lent .kept) (lent .withdrawn) (lent .schedule) waiting' sent' (plan .kept) (plan .withdrawn) (plan .schedule) r
+  pub framed : Framed lent plan h (beside (recordAfter (verdictOf r) (frameRun (h .run)) (h .run))) r
   pub long-kept : 4096 ≤ length (lent .kept)
   pub long-withdrawn : 4096 ≤ length (lent .withdrawn)
   pub long-schedule : 65536 ≤ length (lent .schedule)

@@ -3,9 +3,8 @@ use Prim.Native.Nat.{ℕ, _*_, _<_}
 use mathlib.Core.Path.{_≡_}
 use mathlib.Core.List.{List}
 use lib.ListN.{getD}
-use Rattle.run.specs.Held.{Held}
+use Rattle.calls.specs.Held.{Held, HeldAlike}
 use Rattle.run.specs.Histories.{BooksHold}
-use Rattle.run.specs.Theorems.{HeldAlike}
 use Rattle.files.specs.Format.{nodesOf, slotsOf, limitOf, ruleOf}
 use Rattle.play.specs.Plays.{Played}
 

@@ -13,8 +13,7 @@ ghost use Prim.Native.Nat.{ℕ, _+_, _*_, _≤_, _<_};
 ghost use lib.ListN.{length};
 ghost use Rattle.sums.specs.Tables.{tab, written};
 ghost use Rattle.star.specs.declared.refusals.Verdict.the-variants.{Accepted};
-ghost use Rattle.calls.specs.Runs.{postRun, frameRun};
-ghost use Rattle.run.specs.Held.{held};
+ghost use Rattle.calls.specs.Held.{held, postRun, frameRun};
 ghost use Rattle.files.specs.Format.{two, entriesOf};
 ghost use Rattle.files.specs.Reading.{readVerdict};
 ghost use Rattle.play.specs.Plays.{Played, LargeTables, CanPlay, PostPlayed, FramePlayed};
@@ -42,7 +41,7 @@ fn play_post(
     dropped: &mut [u64],
 )
     requires { ⌜ (old .nodes ≤ 64) × (at + 2 * (old .nodes * old .nodes) ≤ length (now file)) ⌝ }
-    ensures { λ _. ⌜ PostPlayed (now (file .entry)) at old (now (waiting .entry)) (now (posted .entry)) (now (sent .entry)) (now (dropped .entry)) (now (waiting .exit)) (now (posted .exit)) (now (dropped .exit)) ⌝ }
+    ensures { λ _. ⌜ PostPlayed (now (file .entry)) at (held old (now (waiting .entry)) (now (posted .entry)) (now (sent .entry)) (now (dropped .entry))) (λ run. held run (now (waiting .exit)) (now (posted .exit)) (now (sent .entry)) (now (dropped .exit))) ⌝ }
 {
     let n = old.nodes as usize;
     let cells = n * n;
@@ -53,7 +52,7 @@ fn play_post(
 
 // Sends a frame.
 fn play_frame(old: Run, waiting: &mut [u32], posted: &[u64], sent: &mut [u64], dropped: &[u64])
-    ensures { λ _. ⌜ FramePlayed old (now (waiting .entry)) (now (posted .entry)) (now (sent .entry)) (now (dropped .entry)) (now (waiting .exit)) (now (sent .exit)) ⌝ }
+    ensures { λ _. ⌜ FramePlayed (held old (now (waiting .entry)) (now (posted .entry)) (now (sent .entry)) (now (dropped .entry))) (λ run. held run (now (waiting .exit)) (now (posted .entry)) (now (sent .exit)) (now (dropped .entry))) ⌝ }
 {
     let mut kept = [0u32; 4096];
     let mut withdrawn = [0u32; 4096];
@@ -73,7 +72,7 @@ fn play_frame(old: Run, waiting: &mut [u32], posted: &[u64], sent: &mut [u64], d
 // The record after an accepted post.
 fn after_post(old: Run) -> Run
     requires { ⌜ old .posts < 1000000 ⌝ }
-    ensures { λ r. ⌜ r ≡ postRun old Accepted ⌝ }
+    ensures { λ r. ⌜ r ≡ postRun old ⌝ }
 {
     Run {
         nodes: old.nodes,
@@ -88,7 +87,7 @@ fn after_post(old: Run) -> Run
 // The record after an accepted frame.
 fn after_frame(old: Run) -> Run
     requires { ⌜ old .frames < 1000000 ⌝ }
-    ensures { λ r. ⌜ r ≡ frameRun old Accepted ⌝ }
+    ensures { λ r. ⌜ r ≡ frameRun old ⌝ }
 {
     Run {
         nodes: old.nodes,
@@ -110,7 +109,7 @@ fn play_entry(
     sent: &mut [u64],
     dropped: &mut [u64],
 ) -> Run
-    requires { ⌜ CanPlay (now file) e old (now waiting) (now posted) (now sent) (now dropped) ⌝ }
+    requires { ⌜ CanPlay (now file) e (held old (now waiting) (now posted) (now sent) (now dropped)) ⌝ }
     requires { ⌜ e < entriesOf (now file) ⌝ }
     ensures { λ r. ⌜ Played (now (file .entry)) (e + 1) (held r (now (waiting .exit)) (now (posted .exit)) (now (sent .exit)) (now (dropped .exit))) ⌝ }
 {
@@ -133,7 +132,7 @@ fn play_entries(
     sent: &mut [u64],
     dropped: &mut [u64],
 ) -> Run
-    requires { ⌜ CanPlay (now file) 0 start (now waiting) (now posted) (now sent) (now dropped) ⌝ }
+    requires { ⌜ CanPlay (now file) 0 (held start (now waiting) (now posted) (now sent) (now dropped)) ⌝ }
     requires { ⌜ entries ≡ entriesOf (now file) ⌝ }
     ensures { λ r. ⌜ Played (now (file .entry)) (entriesOf (now (file .entry))) (held r (now (waiting .exit)) (now (posted .exit)) (now (sent .exit)) (now (dropped .exit))) ⌝ }
 {

@@ -1,7 +1,6 @@
 -- `after_frame` meets its contract: frames is raised, all else is as before. Assumes nothing.
 use mathlib.Core.Path.{refl}
 use borrow.Author.Needs.{needs}
-use Rattle.calls.specs.Runs.{frameRun}
 use Rattle.play.proofs.after_frame.Statement.{statement}
 use Rattle.play.proofs.after_frame.Tie as tie
 
@@ -9,7 +8,6 @@ frames-after-requires : tie.Need-frames-after-requires
 frames-after-requires c κs = search needs
 
 returns : tie.Need-returns
-unfolding frameRun
 returns c = rw (c .frames-after .ensures) refl
 
 pub after-frame-spec : {M : Type 1} → statement M

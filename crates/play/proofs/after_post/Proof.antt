@@ -1,7 +1,6 @@
 -- `after_post` meets its contract: posts is raised, all else is as before. Assumes nothing.
 use mathlib.Core.Path.{refl}
 use borrow.Author.Needs.{needs}
-use Rattle.calls.specs.Runs.{postRun}
 use Rattle.play.proofs.after_post.Statement.{statement}
 use Rattle.play.proofs.after_post.Tie as tie
 
@@ -9,7 +8,6 @@ posts-after-requires : tie.Need-posts-after-requires
 posts-after-requires c κs = search needs
 
 returns : tie.Need-returns
-unfolding postRun
 returns c = rw (c .posts-after .ensures) refl
 
 pub after-post-spec : {M : Type 1} → statement M

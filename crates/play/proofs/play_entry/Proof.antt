@@ -30,7 +30,7 @@ cast-at c = search needs
 
 play-post-requires : tie.Need-play-post-requires
 unfolding kindOf placeOf
-play-post-requires c κs = (omega (arith, can-nodes (c .before .before .before .before .before .before .before .before .before .before .before .before .pre .0), can-sound (c .before .before .before .before .before .before .before .before .before .before .before .before .pre .0) .ranges .nodes), omega (arith, c .before .before .before .before .four2 .ensures, post-within (c .before .before .before .before .before .before .before .before .before .before .before .before .pre .0) (c .before .before .before .before .before .before .before .before .before .before .before .before .pre .1) (sym (c .before .before .before .before .before .before .four .ensures) ∙ c .before .before .before .before .before .if1 .taken)))
+play-post-requires c κs = (omega (arith, can-nodes (c .before .before .before .before .before .before .before .before .before .before .before .before .pre .0), can-sound (c .before .before .before .before .before .before .before .before .before .before .before .before .pre .0) .ranges .sizes .nodes), omega (arith, c .before .before .before .before .four2 .ensures, post-within (c .before .before .before .before .before .before .before .before .before .before .before .before .pre .0) (c .before .before .before .before .before .before .before .before .before .before .before .before .pre .1) (sym (c .before .before .before .before .before .before .four .ensures) ∙ c .before .before .before .before .before .if1 .taken)))
 
 after-post-requires : tie.Need-after-post-requires
 after-post-requires c κs = few-posts (c .before .before .before .before .before .before .before .before .before .before .before .before .before .before .before .before .before .before .before .pre .0) (c .before .before .before .before .before .before .before .before .before .before .before .before .before .before .before .before .before .before .before .pre .1)

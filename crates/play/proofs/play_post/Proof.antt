@@ -41,7 +41,7 @@ same-length-3 : tie.Need-same-length-3
 same-length-3 c = search needs
 
 returns : tie.Need-returns
-returns c = post-played _ (c .before .before .before .before .before .before .before .before .before .before .before .before .read-cells .ensures .0) (c .before .before .before .before .before .before .before .before .before .before .before .before .read-cells .ensures .1) (c .before .before .before .before .before .before .post-on .ensures)
+returns c = post-played _ _ (c .before .before .before .before .before .before .before .before .before .before .before .before .read-cells .ensures .0) (c .before .before .before .before .before .before .before .before .before .before .before .before .read-cells .ensures .1) (c .before .before .before .before .before .before .post-on .ensures)
 
 pub play-post-spec : {M : Type 1} → statement M
 play-post-spec =
