@@ -5,7 +5,7 @@ use mathlib.Core.List.{List, [], _∷_}
 use Rattle.star.specs.declared.refusals.Verdict.{Verdict}
 use Rattle.star.specs.Refusals.{verdictNumber, verdictPlace}
 use Rattle.planner.specs.declared.answers.Answer.{Answer}
-use Rattle.planner.specs.Plans.{verdictOf, keptTotal, refusedTotal, changes}
+use Rattle.planner.specs.Plans.{verdictOf, reportOf}
 use Rattle.files.specs.declared.output.Output.{Output}
 use Rattle.files.specs.Output.{outputVerdict, outputLength}
 
@@ -17,8 +17,8 @@ pub record Reported (promise : Verdict → Type 0) (number place : ℕ) : Type 0
   pub its-place : place ≡ verdictPlace verdict
 
 -- what a plan or a frame reports beside its number: the place, the two totals and the reconfigurations
-abbrev pub reportOf : Answer → List ℕ
-reportOf answer = verdictPlace (verdictOf answer) ∷ keptTotal answer ∷ refusedTotal answer ∷ changes answer ∷ []
+abbrev pub planReport : Answer → List ℕ
+planReport answer = verdictPlace (verdictOf answer) ∷ reportOf answer .kept ∷ reportOf answer .refused ∷ reportOf answer .reconfigurations ∷ []
 
 -- what a call reports beside its number that writes bytes: the place, and how many it wrote
 abbrev pub outputReport : Output → List ℕ
@@ -32,7 +32,7 @@ pub record ReportedBy {A : Type 0} (verdictFrom : A → Verdict) (reportFrom : A
   pub its-report : report ≡ reportFrom answer
 
 abbrev pub ReportedPlan : (promise : Answer → Type 0) (number : ℕ) (report : List ℕ) → Type 0
-ReportedPlan promise number report = ReportedBy verdictOf reportOf promise number report
+ReportedPlan promise number report = ReportedBy verdictOf planReport promise number report
 
 abbrev pub ReportedOutput : (promise : Output → Type 0) (number : ℕ) (report : List ℕ) → Type 0
 ReportedOutput promise number report = ReportedBy outputVerdict outputReport promise number report

@@ -10,12 +10,11 @@ use Rattle.star.specs.declared.refusals.Verdict.{Verdict}
 use Rattle.star.specs.Refusals.{notice}
 use Rattle.slacks.specs.Slacks.{slacksNotice, SlacksResult}
 use Rattle.planner.specs.declared.answers.Answer.{Answer}
-use Rattle.planner.specs.Plans.{verdictOf, planNotice, PlanResult}
-use Rattle.planner.specs.Theorems.{Agree}
-use Rattle.calls.specs.declared.record.Run.{Run}
-use Rattle.calls.specs.Runs.{freshNotice, Freshened, freshRun, postNotice, Posted, postRun, frameNotice, Framed, frameRun}
-use Rattle.run.specs.Held.{held, FreshCall, PostCall, FrameCall}
-use Rattle.run.specs.Theorems.{FramesAgree}
+use Rattle.planner.specs.Plans.{Lent, planNotice, PlanResult}
+use Rattle.planner.specs.Theorems.{SameResults}
+use Rattle.calls.specs.Held.{Held}
+use Rattle.calls.specs.Runs.{freshNotice, Freshened, postNotice, Posted, frameNotice, Framed}
+use Rattle.run.specs.Theorems.{SameFrames}
 use Rattle.files.specs.Format.{ruleOf}
 use Rattle.file_writer.specs.Theorems.{ReadsBack}
 use Rattle.file_writer.specs.Writing.{writeNotice, WriteResult}
@@ -28,48 +27,28 @@ pub record SlacksExported (n l : ℕ) (d : List ℕ) (table : List ℤ) : Type 0
       (r₁ ≡ r₂) × (p₁ ≡ p₂) × (table₁ ≡ table₂)
 
 -- The report begins with the place; its next two numbers are the totals. The last one, the reconfigurations, is free as the schedule is.
-pub record PlanExported (n l rule : ℕ) (d k a s : List ℕ) : Type 0 where
-  pub numbers : (k' a' s' : List ℕ) (r : ℕ) (report : List ℕ) → ReportedPlan (PlanResult n l rule d k a s k' a' s') r report →
-      notice r (getD report 0 0) ≡ planNotice n l rule d (length k) (length a) (length s)
-  pub unique : (k₁ a₁ s₁ k₂ a₂ s₂ : List ℕ) (r₁ r₂ : ℕ) (report₁ report₂ : List ℕ) → (x : ReportedPlan (PlanResult n l rule d k a s k₁ a₁ s₁) r₁ report₁) →
-      (y : ReportedPlan (PlanResult n l rule d k a s k₂ a₂ s₂) r₂ report₂) →
-      (r₁ ≡ r₂) × (take 3 report₁ ≡ take 3 report₂) × Agree n l rule d k a s k₁ a₁ s₁ k₂ a₂ s₂ (x .answer) (y .answer)
+pub record PlanExported (n l rule : ℕ) (d : List ℕ) (k : Lent) : Type 0 where
+  pub numbers : (k' : Lent) (r : ℕ) (report : List ℕ) → ReportedPlan (λ a. PlanResult n l rule d k k' a) r report →
+      notice r (getD report 0 0) ≡ planNotice n l rule d (length (k .kept)) (length (k .withdrawn)) (length (k .schedule))
+  pub unique : (k₁ k₂ : Lent) (r₁ r₂ : ℕ) (report₁ report₂ : List ℕ) → (x : ReportedPlan (λ a. PlanResult n l rule d k k₁ a) r₁ report₁) → (y : ReportedPlan (λ a. PlanResult n l rule d k k₂ a) r₂ report₂) →
+      (r₁ ≡ r₂) × (take 3 report₁ ≡ take 3 report₂) × SameResults rule k₁ k₂ (x .answer) (y .answer)
 
--- what an exported fresh start promises, post and frame below likewise
-abbrev pub FreshExports : (old : Run) (n l limit rule : ℕ) (w p s d : List ℕ) (run : Run) (w' p' s' d' : List ℕ) → Verdict → Type 0
-FreshExports old n l limit rule w p s d run w' p' s' d' v = (Freshened old n l limit rule w p s d w' p' s' d' v) × (run ≡ freshRun old n l limit rule v)
+pub record FreshExported (n l limit rule : ℕ) (h : Held) : Type 0 where
+  pub numbers : (h' : Held) (r place : ℕ) → Reported (λ v. Freshened n l limit rule h h' v) r place →
+      notice r place ≡ freshNotice n l limit rule (length (h .waiting)) (length (h .posted)) (length (h .sent)) (length (h .dropped))
+  pub unique : (h₁ h₂ : Held) (r₁ place₁ r₂ place₂ : ℕ) → Reported (λ v. Freshened n l limit rule h h₁ v) r₁ place₁ → Reported (λ v. Freshened n l limit rule h h₂ v) r₂ place₂ →
+      (r₁ ≡ r₂) × (place₁ ≡ place₂) × (h₁ ≡ h₂)
 
-pub record FreshExported (old : Run) (n l limit rule : ℕ) (w p s d : List ℕ) : Type 0 where
-  pub numbers : (run : Run) (w' p' s' d' : List ℕ) (r place : ℕ) → Reported (FreshExports old n l limit rule w p s d run w' p' s' d') r place →
-      notice r place ≡ freshNotice n l limit rule (length w) (length p) (length s) (length d)
-  pub unique : (run₁ : Run) (w₁ p₁ s₁ d₁ : List ℕ) (run₂ : Run) (w₂ p₂ s₂ d₂ : List ℕ) (r₁ place₁ r₂ place₂ : ℕ) →
-      Reported (FreshExports old n l limit rule w p s d run₁ w₁ p₁ s₁ d₁) r₁ place₁ → Reported (FreshExports old n l limit rule w p s d run₂ w₂ p₂ s₂ d₂) r₂ place₂ →
-      (r₁ ≡ r₂) × (place₁ ≡ place₂) × (held run₁ w₁ p₁ s₁ d₁ ≡ held run₂ w₂ p₂ s₂ d₂)
-  pub called : (run : Run) (w' p' s' d' : List ℕ) (r place : ℕ) → (x : Reported (FreshExports old n l limit rule w p s d run w' p' s' d') r place) →
-      FreshCall n l limit rule (held old w p s d) (held run w' p' s' d') (x .verdict)
+pub record PostExported (arrivals : List ℕ) (h : Held) : Type 0 where
+  pub numbers : (h' : Held) (r place : ℕ) → Reported (λ v. Posted arrivals h h' v) r place → notice r place ≡ postNotice arrivals h
+  pub unique : (h₁ h₂ : Held) (r₁ place₁ r₂ place₂ : ℕ) → Reported (λ v. Posted arrivals h h₁ v) r₁ place₁ → Reported (λ v. Posted arrivals h h₂ v) r₂ place₂ →
+      (r₁ ≡ r₂) × (place₁ ≡ place₂) × (h₁ ≡ h₂)
 
-abbrev pub PostExports : (old : Run) (arrivals w p s d : List ℕ) (run : Run) (w' p' d' : List ℕ) → Verdict → Type 0
-PostExports old arrivals w p s d run w' p' d' v = (Posted old arrivals w p s d w' p' d' v) × (run ≡ postRun old v)
-
-pub record PostExported (old : Run) (arrivals w p s d : List ℕ) : Type 0 where
-  pub numbers : (run : Run) (w' p' d' : List ℕ) (r place : ℕ) → Reported (PostExports old arrivals w p s d run w' p' d') r place → notice r place ≡ postNotice old arrivals w p s d
-  pub unique : (run₁ : Run) (w₁ p₁ d₁ : List ℕ) (run₂ : Run) (w₂ p₂ d₂ : List ℕ) (r₁ place₁ r₂ place₂ : ℕ) →
-      Reported (PostExports old arrivals w p s d run₁ w₁ p₁ d₁) r₁ place₁ → Reported (PostExports old arrivals w p s d run₂ w₂ p₂ d₂) r₂ place₂ →
-      (r₁ ≡ r₂) × (place₁ ≡ place₂) × (held run₁ w₁ p₁ s d₁ ≡ held run₂ w₂ p₂ s d₂)
-  pub called : (run : Run) (w' p' d' : List ℕ) (r place : ℕ) → (x : Reported (PostExports old arrivals w p s d run w' p' d') r place) →
-      PostCall arrivals (held old w p s d) (held run w' p' s d') (x .verdict)
-
-abbrev pub FrameExports : (old : Run) (w p s d k a q : List ℕ) (run : Run) (w' s' k' a' q' : List ℕ) → Answer → Type 0
-FrameExports old w p s d k a q run w' s' k' a' q' r = (Framed old w p s d k a q w' s' k' a' q' r) × (run ≡ frameRun old (verdictOf r))
-
-pub record FrameExported (old : Run) (w p s d k a q : List ℕ) : Type 0 where
-  pub numbers : (run : Run) (w' s' k' a' q' : List ℕ) (r : ℕ) (report : List ℕ) → ReportedPlan (FrameExports old w p s d k a q run w' s' k' a' q') r report →
-      notice r (getD report 0 0) ≡ frameNotice old w p s d (length k) (length a) (length q)
-  pub unique : (run₁ : Run) (w₁ s₁ k₁ a₁ q₁ : List ℕ) (run₂ : Run) (w₂ s₂ k₂ a₂ q₂ : List ℕ) (r₁ r₂ : ℕ) (report₁ report₂ : List ℕ) →
-      (x : ReportedPlan (FrameExports old w p s d k a q run₁ w₁ s₁ k₁ a₁ q₁) r₁ report₁) → (y : ReportedPlan (FrameExports old w p s d k a q run₂ w₂ s₂ k₂ a₂ q₂) r₂ report₂) →
-      (r₁ ≡ r₂) × (take 3 report₁ ≡ take 3 report₂) × (run₁ ≡ run₂) × FramesAgree (old .rule) w₁ s₁ k₁ a₁ q₁ w₂ s₂ k₂ a₂ q₂ (x .answer) (y .answer)
-  pub called : (run : Run) (w' s' k' a' q' : List ℕ) (r : ℕ) (report : List ℕ) → (x : ReportedPlan (FrameExports old w p s d k a q run w' s' k' a' q') r report) →
-      FrameCall k a q k' a' q' (held old w p s d) (held run w' p s' d) (x .answer)
+pub record FrameExported (k : Lent) (h : Held) : Type 0 where
+  pub numbers : (k' : Lent) (h' : Held) (r : ℕ) (report : List ℕ) → ReportedPlan (λ a. Framed k k' h h' a) r report →
+      notice r (getD report 0 0) ≡ frameNotice h (length (k .kept)) (length (k .withdrawn)) (length (k .schedule))
+  pub unique : (k₁ k₂ : Lent) (h₁ h₂ : Held) (r₁ r₂ : ℕ) (report₁ report₂ : List ℕ) → (x : ReportedPlan (λ a. Framed k k₁ h h₁ a) r₁ report₁) → (y : ReportedPlan (λ a. Framed k k₂ h h₂ a) r₂ report₂) →
+      (r₁ ≡ r₂) × (take 3 report₁ ≡ take 3 report₂) × SameFrames (h .run .rule) k₁ k₂ h₁ h₂ (x .answer) (y .answer)
 
 -- The report begins with the place; its next number is the length. What is written, cut to that length, reads back the same.
 pub record WriteExported (n l limit rule : ℕ) (kinds cells out : List ℕ) : Type 0 where
@@ -88,9 +67,9 @@ pub record PlayExported (file text : List ℕ) : Type 0 where
 
 pub record ExportTheorems : Type 0 where
   pub slacks : (n l : ℕ) (d : List ℕ) (table : List ℤ) → SlacksExported n l d table
-  pub plan : (n l rule : ℕ) (d k a s : List ℕ) → PlanExported n l rule d k a s
-  pub fresh : (old : Run) (n l limit rule : ℕ) (w p s d : List ℕ) → FreshExported old n l limit rule w p s d
-  pub post : (old : Run) (arrivals w p s d : List ℕ) → PostExported old arrivals w p s d
-  pub frame : (old : Run) (w p s d k a q : List ℕ) → FrameExported old w p s d k a q
+  pub plan : (n l rule : ℕ) (d : List ℕ) (k : Lent) → PlanExported n l rule d k
+  pub fresh : (n l limit rule : ℕ) (h : Held) → FreshExported n l limit rule h
+  pub post : (arrivals : List ℕ) (h : Held) → PostExported arrivals h
+  pub frame : (k : Lent) (h : Held) → FrameExported k h
   pub write : (n l limit rule : ℕ) (kinds cells out : List ℕ) → WriteExported n l limit rule kinds cells out
   pub play : (file text : List ℕ) → PlayExported file text

@@ -2,17 +2,15 @@
 use calls::record::Run;
 use files::output::Output;
 use planner::answers::Answer;
-use planner::answers::kept_total;
-use planner::answers::reconfigured;
-use planner::answers::refused_total;
+use planner::answers::report_of;
 use planner::answers::verdict;
 ghost use mathlib.Core.Path.{_≡_};
 ghost use Rattle.slacks.specs.Slacks.{SlacksResult};
-ghost use Rattle.planner.specs.Plans.{PlanResult, verdictOf};
-ghost use Rattle.calls.specs.Runs.{Freshened, freshRun, Posted, postRun, Framed, frameRun};
+ghost use Rattle.planner.specs.Plans.{PlanOn};
+ghost use Rattle.calls.specs.Runs.{FreshOn, PostOn, FrameOn};
 ghost use Rattle.file_writer.specs.Writing.{WriteResult};
 ghost use Rattle.scenario_text.specs.Outcomes.{PrintResult};
-ghost use Rattle.export.specs.Reports.{Reported, ReportedPlan, ReportedOutput, reportOf, outputReport};
+ghost use Rattle.export.specs.Reports.{Reported, ReportedPlan, ReportedOutput, planReport, outputReport};
 
 // `slacks::slacks`; returns the number of the refusal, 0 where the call is accepted, and stores its place.
 #[no_mangle]
@@ -32,13 +30,14 @@ pub extern "C" fn gyodaebeun_slacks(
 
 // The place, the kept total, the refused total and the reconfigurations of an answer.
 fn reported(a: Answer) -> [u32; 4]
-    ensures { λ r. ⌜ r ≡ reportOf a ⌝ }
+    ensures { λ r. ⌜ r ≡ planReport a ⌝ }
 {
+    let report = report_of(a);
     [
         star::refusals::place(verdict(a)),
-        kept_total(a),
-        refused_total(a),
-        reconfigured(a),
+        report.kept,
+        report.refused,
+        report.reconfigurations,
     ]
 }
 
@@ -55,7 +54,7 @@ pub extern "C" fn gyodaebeun_plan(
     schedule: &mut [u8],
     report: &mut [u32; 4],
 ) -> u32
-    ensures { λ r. ⌜ ReportedPlan (PlanResult nodes slots rule (now (demand .entry)) (now (kept .entry)) (now (withdrawn .entry)) (now (schedule .entry)) (now (kept .exit)) (now (withdrawn .exit)) (now (schedule .exit))) r (now (report .exit)) ⌝ }
+    ensures { λ r. ⌜ ReportedPlan (λ a. PlanOn nodes slots rule (now (demand .entry)) (now (kept .entry)) (now (withdrawn .entry)) (now (schedule .entry)) (now (kept .exit)) (now (withdrawn .exit)) (now (schedule .exit)) a) r (now (report .exit)) ⌝ }
 {
     let a = planner::plans::plan(nodes, slots, rule, demand, kept, withdrawn, schedule);
     *report = reported(a);
@@ -76,7 +75,7 @@ pub extern "C" fn gyodaebeun_fresh(
     dropped: &mut [u64],
     place: &mut u32,
 ) -> u32
-    ensures { λ r. ⌜ Reported (λ v. (Freshened (now (run .entry)) nodes slots limit rule (now (waiting .entry)) (now (posted .entry)) (now (sent .entry)) (now (dropped .entry)) (now (waiting .exit)) (now (posted .exit)) (now (sent .exit)) (now (dropped .exit)) v) × (now (run .exit) ≡ freshRun (now (run .entry)) nodes slots limit rule v)) r (now (place .exit)) ⌝ }
+    ensures { λ r. ⌜ Reported (λ v. FreshOn nodes slots limit rule (now (run .entry)) (now (waiting .entry)) (now (posted .entry)) (now (sent .entry)) (now (dropped .entry)) (now (run .exit)) (now (waiting .exit)) (now (posted .exit)) (now (sent .exit)) (now (dropped .exit)) v) r (now (place .exit)) ⌝ }
 {
     let v = run::fresh::fresh(
         run,
@@ -104,7 +103,7 @@ pub extern "C" fn gyodaebeun_post(
     dropped: &mut [u64],
     place: &mut u32,
 ) -> u32
-    ensures { λ r. ⌜ Reported (λ v. (Posted (now (run .entry)) (now (arrivals .entry)) (now (waiting .entry)) (now (posted .entry)) (now (sent .entry)) (now (dropped .entry)) (now (waiting .exit)) (now (posted .exit)) (now (dropped .exit)) v) × (now (run .exit) ≡ postRun (now (run .entry)) v)) r (now (place .exit)) ⌝ }
+    ensures { λ r. ⌜ Reported (λ v. PostOn (now (arrivals .entry)) (now (run .entry)) (now (waiting .entry)) (now (posted .entry)) (now (sent .entry)) (now (dropped .entry)) (now (run .exit)) (now (waiting .exit)) (now (posted .exit)) (now (dropped .exit)) v) r (now (place .exit)) ⌝ }
 {
     let v = run::post::post(run, arrivals, waiting, posted, sent, dropped);
     *place = star::refusals::place(v);
@@ -125,7 +124,7 @@ pub extern "C" fn gyodaebeun_frame(
     schedule: &mut [u8],
     report: &mut [u32; 4],
 ) -> u32
-    ensures { λ r. ⌜ ReportedPlan (λ a. (Framed (now (run .entry)) (now (waiting .entry)) (now (posted .entry)) (now (sent .entry)) (now (dropped .entry)) (now (kept .entry)) (now (withdrawn .entry)) (now (schedule .entry)) (now (waiting .exit)) (now (sent .exit)) (now (kept .exit)) (now (withdrawn .exit)) (now (schedule .exit)) a) × (now (run .exit) ≡ frameRun (now (run .entry)) (verdictOf a))) r (now (report .exit)) ⌝ }
+    ensures { λ r. ⌜ ReportedPlan (λ a. FrameOn (now (run .entry)) (now (waiting .entry)) (now (posted .entry)) (now (sent .entry)) (now (dropped .entry)) (now (kept .entry)) (now (withdrawn .entry)) (now (schedule .entry)) (now (run .exit)) (now (waiting .exit)) (now (sent .exit)) (now (kept .exit)) (now (withdrawn .exit)) (now (schedule .exit)) a) r (now (report .exit)) ⌝ }
 {
     let a = run::frame::frame(
         run,

@@ -41,6 +41,7 @@ frame-unique k k₁ k₂ h h₁ h₂ (answer.Planned f) r₂ c d =
     let then-held : k₁ .kept ≡ k₂ .kept → h₁ ≡ h₂ = λ kept. c .accepted refl .after ∙ ap (λ x. afterFrame x h) kept ∙ sym (d .accepted e .after) in
     record {
       plans = plans;
+      records = ap (λ x. x .run) (c .accepted refl .after) ∙ sym (ap (λ x. x .run) (d .accepted e .after));
       refused-held = λ x q. absurd (never (sym q));
       fair-held = λ ok z. then-held (plans .fair-cells ok z .0);
       least-held = λ ok u same. then-held (plans .least-cells ok u same);
@@ -58,6 +59,7 @@ frame-unique k k₁ k₂ h h₁ h₂ (answer.Refused x) (answer.Refused y) c d =
         fair-cells = λ ok z. absurd (never ok);
         least-cells = λ ok u same. absurd (never ok);
       };
+      records = ap (λ x. x .run) (one .0 ∙ sym (other .0));
       refused-held = λ z q. one .0 ∙ sym (other .0);
       fair-held = λ ok z. absurd (never ok);
       least-held = λ ok u same. absurd (never ok);

@@ -52,10 +52,11 @@ pub record PostTheorems : Type 0 where
   pub lengths : (arrivals : List ℕ) (h h' : Held) (v : Verdict) → Posted arrivals h h' v → SameLengths h h'
 
 -- ---- frame
--- Two results on the same record and tables agree as two plans do; and what is held then is the same where the call is refused, under the fair rule,
--- and under the least rule where they agree in A.
+-- Two results on the same record and tables agree as two plans do, and in the record; and what is held then is the same where the call is refused,
+-- under the fair rule, and under the least rule where they agree in A.
 pub record SameFrames (rule : ℕ) (k₁ k₂ : Lent) (h₁ h₂ : Held) (r₁ r₂ : Answer) : Type 0 where
   pub plans : SameResults rule k₁ k₂ r₁ r₂
+  pub records : h₁ .run ≡ h₂ .run
   pub refused-held : (x : Refusal) → verdictOf r₁ ≡ Refused x → h₁ ≡ h₂
   pub fair-held : verdictOf r₁ ≡ Accepted → rule ≡ 0 → h₁ ≡ h₂
   pub least-held : verdictOf r₁ ≡ Accepted → rule ≡ 1 → k₁ .withdrawn ≡ k₂ .withdrawn → h₁ ≡ h₂

@@ -13,7 +13,7 @@ use Rattle.pieces.specs.Pieces.{Appended, joinTo}
 use Rattle.pieces.specs.Text.{decimal, marked, refusalText}
 use Rattle.pieces.proofs.PieceLaws.{appended-more, join-most}
 use Rattle.pieces.proofs.TextLaws.{decimal-length, marked-length, refusal-fits}
-use Rattle.scenario_text.specs.Lines.{lineText, pairText, textAt, linesText, room}
+use Rattle.scenario_text.specs.Lines.{lineText, pairText, textAt, linesText, longestText}
 
 -- a number of 64 bits has at most twenty digits
 word-length : (n : ℕ) → n < 18446744073709551616 → length (decimal n) ≤ 20
@@ -38,8 +38,8 @@ module _ (n pair posted sent dropped waiting : ℕ) where
     pub line-put : at + length (lineText n pair posted sent dropped waiting) ≤ length o → Appended o o1 at r1 (marked (pair / n) 32) → Appended o1 o2 r1 r2 (marked (pair % n) 32) → Appended o2 o3 r2 r3 (marked posted 32) →
         Appended o3 o4 r3 r4 (marked sent 32) → Appended o4 o5 r4 r5 (marked dropped 32) → Appended o5 o6 r5 r6 (marked waiting 10) → Appended o o6 at r6 (lineText n pair posted sent dropped waiting)
     unfolding lineText
-    line-put room a b c d e f =
-        let fits = simp length-append at room in
+    line-put enough a b c d e f =
+        let fits = simp length-append at enough in
         appended-more {at = at} (simp length-append (omega (arith, fits)))
         (appended-more {at = at} (simp length-append (omega (arith, fits)))
         (appended-more {at = at} (simp length-append (omega (arith, fits)))
@@ -71,7 +71,7 @@ module _ (n pair posted sent dropped waiting : ℕ) where
 
 -- all lines fit
 module _ (n : ℕ) (posted sent dropped waiting : List ℕ) (few : n ≤ 64) (hp : (k : ℕ) → getD posted k 0 < 18446744073709551616) (hs : (k : ℕ) → getD sent k 0 < 18446744073709551616) (hd : (k : ℕ) → getD dropped k 0 < 18446744073709551616) (hw : (k : ℕ) → getD waiting k 0 < 4294967296) where
-  pub lines-fit : length (joinTo (n * n) (textAt n posted sent dropped waiting)) ≤ room
+  pub lines-fit : length (joinTo (n * n) (textAt n posted sent dropped waiting)) ≤ longestText
   unfolding textAt
   lines-fit =
       omega (
@@ -82,7 +82,7 @@ module _ (n : ℕ) (posted sent dropped waiting : List ℕ) (few : n ≤ 64) (hp
 
   -- the text of all pairs, and its length
   pub lines-done : {out out' : List ℕ} {next pair : ℕ} → pair ≡ n * n → Appended out out' 0 next (joinTo pair (textAt n posted sent dropped waiting)) →
-      (Appended out out' 0 next (linesText n posted sent dropped waiting)) × (next ≤ room)
+      (Appended out out' 0 next (linesText n posted sent dropped waiting)) × (next ≤ longestText)
   unfolding linesText
   lines-done {out} {out'} {next} e a =
       let all : Appended out out' 0 next (joinTo (n * n) (textAt n posted sent dropped waiting)) = rw e at a in
@@ -90,7 +90,7 @@ module _ (n : ℕ) (posted sent dropped waiting : List ℕ) (few : n ≤ 64) (hp
 
 -- the line of a refusal is shorter
 pub refusal-done : {out out' : List ℕ} {k number place : ℕ} (r : Refusal) → number < 4294967296 → place < 4294967296 → number ≡ refusalNumber r → place ≡ refusalPlace r →
-    Appended out out' 0 k (refusalText number place) → (Appended out out' 0 k (refusalText (refusalNumber r) (refusalPlace r))) × (k ≤ room)
+    Appended out out' 0 k (refusalText number place) → (Appended out out' 0 k (refusalText (refusalNumber r) (refusalPlace r))) × (k ≤ longestText)
 refusal-done {out} {out'} {k} {number} {place} r hn hp en ep a =
     let length-of = refusal-fits number place (omega arith) (omega arith) in
     (rw (en, ep) at a, omega (arith, a .end, length-of))

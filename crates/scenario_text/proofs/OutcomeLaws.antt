@@ -16,14 +16,14 @@ use Rattle.pieces.specs.Pieces.{Appended, Answered}
 use Rattle.pieces.specs.Text.{badInput, refusalText}
 use Rattle.pieces.proofs.PieceLaws.{answered-text, answered-as}
 use Rattle.calls.specs.declared.record.Run.{Run}
-use Rattle.run.specs.Held.{held}
+use Rattle.calls.specs.Held.{held}
 use Rattle.files.specs.declared.output.Output.the-variants as output
 use Rattle.files.specs.declared.reading.Reading.{Reading}
 use Rattle.files.specs.declared.reading.Reading.the-variants as reading
 use Rattle.files.specs.Format.{nodesOf, entriesOf}
 use Rattle.files.specs.Reading.{readVerdict, readAnswer}
 use Rattle.play.specs.Plays.{Played}
-use Rattle.scenario_text.specs.Lines.{linesText, room}
+use Rattle.scenario_text.specs.Lines.{linesText, longestText}
 use Rattle.scenario_text.specs.Outcomes.{PrintsRun, PrintsFile, printVerdict, printNotice, PrintResult}
 
 -- ---- what is read tells the verdict
@@ -77,7 +77,7 @@ unfolding printVerdict printNotice
 print-notice lent = in-numbers _ _ _ refl
 
 module _ (file : List ℕ) {text text' : List ℕ} where
-  pub printed : {k : ℕ} → ltb (length text) room ≡ false → Answered (PrintsFile file) text text' k → PrintResult file text text' (output.Bytes k)
+  pub printed : {k : ℕ} → ltb (length text) longestText ≡ false → Answered (PrintsFile file) text text' k → PrintResult file text text' (output.Bytes k)
   unfolding printVerdict
   printed long a = let e : Accepted ≡ printVerdict (length text) = passes _ long refl in record {
     answer = e;
@@ -86,7 +86,7 @@ module _ (file : List ℕ) {text text' : List ℕ} where
     refused = λ x z. absurd (never (sym z));
   }
 
-  pub not-printed : ltb (length text) room ≡ true → text' ≡ text → PrintResult file text text' (output.Refused TableShort)
+  pub not-printed : ltb (length text) longestText ≡ true → text' ≡ text → PrintResult file text text' (output.Refused TableShort)
   unfolding printVerdict
   not-printed short same = let e : Refused TableShort ≡ printVerdict (length text) = fires _ short in record {
     answer = e;

@@ -11,12 +11,12 @@ use Rattle.star.specs.declared.refusals.Verdict.the-variants.{Accepted, Refused
 use Rattle.star.proofs.AlikeLaws.{alike-at}
 use Rattle.star.proofs.RefusalLaws.{passes}
 use Rattle.pieces.proofs.PieceLaws.{join-ext, answered-same}
-use Rattle.run.specs.Held.{Held}
+use Rattle.calls.specs.Held.{Held}
 use Rattle.run.specs.Theorems.{HeldAlike}
 use Rattle.files.specs.Format.{nodesOf, ruleOf, entriesOf}
 use Rattle.files.specs.Reading.{readVerdict}
 use Rattle.play.proofs.PlayTheorems.{play-theorems}
-use Rattle.scenario_text.specs.Lines.{textAt, linesText, heldText, room}
+use Rattle.scenario_text.specs.Lines.{textAt, linesText, heldText, longestText}
 use Rattle.scenario_text.specs.Outcomes.{PrintsFile, printVerdict}
 use Rattle.scenario_text.specs.Theorems.{PrintsAgree, PrintTheorems}
 
@@ -61,5 +61,5 @@ print-theorems = record {
   unique = prints-agree;
   certain = λ input text₁ text₂ p q. agree-certain input text₁ text₂ (prints-agree input text₁ text₂ p q);
   bytes = λ input out out₁ out₂ r₁ r₂ a b same. answered-same a b same;
-  accepts = λ file text text' r p enough. p .answer ∙ sym (passes _ (le-ltb (length text) room enough) refl);
+  accepts = λ file text text' r p enough. p .answer ∙ sym (passes _ (le-ltb (length text) longestText enough) refl);
 }

@@ -6,7 +6,7 @@ use lib.ListN.{getD}
 use lib.Dec.{eqb}
 use Rattle.pieces.specs.Pieces.{joinTo}
 use Rattle.pieces.specs.Text.{marked}
-use Rattle.run.specs.Held.{Held}
+use Rattle.calls.specs.Held.{Held}
 
 -- Source, destination, posted, sent, dropped, waiting, parted by one space, and a line feed; pair (i,j) is cell i×N+j.
 unfoldable pub lineText : (n pair posted sent dropped waiting : ℕ) → List ℕ
@@ -29,5 +29,5 @@ abbrev pub heldText : (n : ℕ) (h : Held) → List ℕ
 heldText n h = linesText n (h .posted) (h .sent) (h .dropped) (h .waiting)
 
 -- Room for the longest text: 4,096 lines of six numbers of at most twenty digits, each with a byte after it.
-abbrev pub room : ℕ
-room = 516096
+abbrev pub longestText : ℕ
+longestText = 516096

@@ -7,16 +7,16 @@ use Rattle.star.specs.declared.refusals.Refusal.{Refusal}
 use Rattle.star.specs.declared.refusals.Refusal.the-variants.{TableShort}
 use Rattle.star.specs.declared.refusals.Verdict.{Verdict}
 use Rattle.star.specs.declared.refusals.Verdict.the-variants.{Accepted, Refused}
-use Rattle.star.specs.Refusals.{refusalNumber, refusalPlace, Notice, noticeOf, accepted, check, refuse, short}
+use Rattle.star.specs.Refusals.{refusalNumber, refusalPlace, Notice, accepted, check, refuse, Promise, short}
 use Rattle.pieces.specs.Pieces.{Answered}
 use Rattle.pieces.specs.Text.{badInput, refusalText}
-use Rattle.run.specs.Held.{Held}
+use Rattle.calls.specs.Held.{Held}
 use Rattle.files.specs.declared.output.Output.{Output}
 use Rattle.files.specs.Output.{outputVerdict, outputLength}
 use Rattle.files.specs.Format.{nodesOf, entriesOf}
 use Rattle.files.specs.Reading.{readVerdict}
 use Rattle.play.specs.Plays.{Played}
-use Rattle.scenario_text.specs.Lines.{heldText, room}
+use Rattle.scenario_text.specs.Lines.{heldText, longestText}
 
 -- The whole file is played, and the text is the lines of what is held then.
 pub record PrintsRun (file text : List ℕ) : Type 0 where
@@ -33,15 +33,12 @@ pub record PrintsFile (input text : List ℕ) : Type 0 where
 -- ---- into bytes of any length
 -- 5 where the lent bytes have no room for the longest text
 unfoldable pub printVerdict : (lent : ℕ) → Verdict
-printVerdict lent = refuse (short lent room) TableShort Accepted
+printVerdict lent = refuse (short lent longestText) TableShort Accepted
 
 -- the same in the documents' numbers
 unfoldable pub printNotice : (lent : ℕ) → Notice
-printNotice lent = check (short lent room) 5 0 accepted
+printNotice lent = check (short lent longestText) 5 0 accepted
 
 -- What `print` promises for every file and every lent bytes: the text for the file, or a refusal that writes nothing.
-pub record PrintResult (file text text' : List ℕ) (r : Output) : Type 0 where
-  pub answer : outputVerdict r ≡ printVerdict (length text)
-  pub notice : noticeOf (outputVerdict r) ≡ printNotice (length text)
-  pub accepted : outputVerdict r ≡ Accepted → Answered (PrintsFile file) text text' (outputLength r)
-  pub refused : (x : Refusal) → outputVerdict r ≡ Refused x → text' ≡ text
+abbrev pub PrintResult : (file text text' : List ℕ) (r : Output) → Type 0
+PrintResult file text text' r = Promise (outputVerdict r) (printVerdict (length text)) (printNotice (length text)) text text' (Answered (PrintsFile file) text text' (outputLength r))

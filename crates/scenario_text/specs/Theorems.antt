@@ -7,13 +7,13 @@ use lib.ListN.{length, getD}
 use Rattle.star.specs.declared.refusals.Refusal.{Refusal}
 use Rattle.star.specs.declared.refusals.Verdict.the-variants.{Accepted, Refused}
 use Rattle.pieces.specs.Pieces.{Answered}
-use Rattle.run.specs.Held.{Held}
+use Rattle.calls.specs.Held.{Held}
 use Rattle.files.specs.declared.output.Output.{Output}
 use Rattle.files.specs.Output.{outputVerdict}
 use Rattle.files.specs.Format.{nodesOf, ruleOf, entriesOf}
 use Rattle.files.specs.Reading.{readVerdict}
 use Rattle.play.specs.Plays.{Played}
-use Rattle.scenario_text.specs.Lines.{heldText, room}
+use Rattle.scenario_text.specs.Lines.{heldText, longestText}
 use Rattle.scenario_text.specs.Outcomes.{PrintsFile, PrintResult}
 
 -- Two texts are the lines of two runs of the file, in which each pair has the same posted: so that lines stand for the same pairs, and differ in
@@ -43,4 +43,4 @@ pub record PrintTheorems : Type 0 where
   pub bytes : (input out out₁ out₂ : List ℕ) (r₁ r₂ : ℕ) (a : Answered (PrintsFile input) out out₁ r₁) (b : Answered (PrintsFile input) out out₂ r₂) → a .text ≡ b .text →
       (out₁ ≡ out₂) × (r₁ ≡ r₂)
   -- bytes enough for the longest text are accepted, whatever the file
-  pub accepts : (file text text' : List ℕ) (r : Output) → PrintResult file text text' r → room ≤ length text → outputVerdict r ≡ Accepted
+  pub accepts : (file text text' : List ℕ) (r : Output) → PrintResult file text text' r → longestText ≤ length text → outputVerdict r ≡ Accepted

@@ -19,7 +19,7 @@ ghost use Rattle.pieces.specs.Pieces.{Appended, Answered};
 ghost use Rattle.pieces.specs.Text.{refusalText};
 ghost use Rattle.files.specs.Format.{nodesOf};
 ghost use Rattle.files.specs.Reading.{readVerdict};
-ghost use Rattle.scenario_text.specs.Lines.{room};
+ghost use Rattle.scenario_text.specs.Lines.{longestText};
 ghost use Rattle.scenario_text.specs.Outcomes.{PrintsFile, PrintsRun, PrintResult};
 
 // Bytes enough for the longest text.
@@ -27,8 +27,8 @@ pub const ROOM: usize = 516096;
 
 // Prints a refusal.
 fn put_refused_file(out: &mut [u8], refusal: Refusal) -> usize
-    requires { ⌜ room ≤ length (now out) ⌝ }
-    ensures { λ r. ⌜ (Appended (now (out .entry)) (now (out .exit)) 0 r (refusalText (refusalNumber refusal) (refusalPlace refusal))) × (r ≤ room) ⌝ }
+    requires { ⌜ longestText ≤ length (now out) ⌝ }
+    ensures { λ r. ⌜ (Appended (now (out .entry)) (now (out .exit)) 0 r (refusalText (refusalNumber refusal) (refusalPlace refusal))) × (r ≤ longestText) ⌝ }
 {
     let verdict = Verdict::Refused { refusal };
     put_refusal(out, number(verdict) as u64, place(verdict) as u64)
@@ -36,8 +36,8 @@ fn put_refused_file(out: &mut [u8], refusal: Refusal) -> usize
 
 // Plays an accepted file of n nodes, and prints what is held then.
 fn put_run(out: &mut [u8], file: &[u8], n: usize) -> usize
-    requires { ⌜ (room ≤ length (now out)) × (readVerdict (now file) ≡ Accepted) × (n ≡ nodesOf (now file)) ⌝ }
-    ensures { λ r. ⌜ (Answered (PrintsRun (now (file .entry))) (now (out .entry)) (now (out .exit)) r) × (r ≤ room) ⌝ }
+    requires { ⌜ (longestText ≤ length (now out)) × (readVerdict (now file) ≡ Accepted) × (n ≡ nodesOf (now file)) ⌝ }
+    ensures { λ r. ⌜ (Answered (PrintsRun (now (file .entry))) (now (out .entry)) (now (out .exit)) r) × (r ≤ longestText) ⌝ }
 {
     let mut waiting = [0u32; 4096];
     let mut posted = [0u64; 4096];
@@ -49,8 +49,8 @@ fn put_run(out: &mut [u8], file: &[u8], n: usize) -> usize
 
 // Prints the answer to an input from the front, and gives its length.
 fn put_outcome(out: &mut [u8], input: &[u8]) -> usize
-    requires { ⌜ room ≤ length (now out) ⌝ }
-    ensures { λ r. ⌜ (Answered (PrintsFile (now (input .entry))) (now (out .entry)) (now (out .exit)) r) × (r ≤ room) ⌝ }
+    requires { ⌜ longestText ≤ length (now out) ⌝ }
+    ensures { λ r. ⌜ (Answered (PrintsFile (now (input .entry))) (now (out .entry)) (now (out .exit)) r) × (r ≤ longestText) ⌝ }
 {
     if input.len() > 65536 {
         return put_bad_input(out);

@@ -4,7 +4,7 @@ ghost use Prim.Native.Nat.{_+_, _≤_};
 ghost use lib.ListN.{length};
 ghost use Rattle.pieces.specs.Pieces.{Appended};
 ghost use Rattle.play.specs.Plays.{LargeTables};
-ghost use Rattle.scenario_text.specs.Lines.{lineText, pairText, linesText, room};
+ghost use Rattle.scenario_text.specs.Lines.{lineText, pairText, linesText, longestText};
 
 // The line of a pair.
 fn put_line(
@@ -57,9 +57,9 @@ pub fn put_lines(
     dropped: &[u64],
     waiting: &[u32],
 ) -> usize
-    requires { ⌜ (1 ≤ n) × (n ≤ 64) × (room ≤ length (now out)) ⌝ }
+    requires { ⌜ (1 ≤ n) × (n ≤ 64) × (longestText ≤ length (now out)) ⌝ }
     requires { ⌜ LargeTables (now waiting) (now posted) (now sent) (now dropped) ⌝ }
-    ensures { λ r. ⌜ (Appended (now (out .entry)) (now (out .exit)) 0 r (linesText n (now (posted .entry)) (now (sent .entry)) (now (dropped .entry)) (now (waiting .entry)))) × (r ≤ room) ⌝ }
+    ensures { λ r. ⌜ (Appended (now (out .entry)) (now (out .exit)) 0 r (linesText n (now (posted .entry)) (now (sent .entry)) (now (dropped .entry)) (now (waiting .entry)))) × (r ≤ longestText) ⌝ }
 {
     let cells = n * n;
     let mut next = 0;

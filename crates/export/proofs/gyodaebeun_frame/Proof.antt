@@ -44,7 +44,7 @@ use denote.Triple.Walked.{says, Stays, stay-ref, gave-ref, gave-slice, stay-none
 use denote.Exit.{yes as kept}
 use Rattle.star.specs.Refusals.{verdictNumber}
 use Rattle.planner.specs.Plans.{verdictOf}
-use Rattle.calls.specs.Runs.{Framed, frameRun}
+use Rattle.calls.specs.Runs.{FrameOn}
 use Rattle.export.specs.Reports.{reportOf}
 use Rattle.planner.specs.declared.answers.Answer.{Answer}
 use Rattle.planner.proofs.answers.Answer as rAnswer
@@ -137,7 +137,7 @@ module _ {M : Type 1} (𝓤 : URA M) (H : Heap 𝓤) (A : Atoms 𝓤) (W : Given
   Post = walkOf 𝓤 H A f.ended stayed (f.clauses 𝓤 H A at-mem run) .post (((κ, (κ0, (κ1, (κ2, (κ3, (κ4, (κ5, (κ6, (κ′, tt))))))))), (q, (q0, (q1, (q2, (q3, (q4, (q5, (q6, (q′, tt))))))))), tt, x, at), tt)
 
   abbrev Says : Answer → Run → List ℕ → List ℕ → List ℕ → List ℕ → List ℕ → Type 0
-  Says r m z0 z2 z4 z5 z6 = (Framed h (now s0) (now s1) (now s2) (now s3) (now s4) (now s5) (now s6) z0 z2 z4 z5 z6 r) × (m ≡ frameRun h (verdictOf r))
+  Says r m z0 z2 z4 z5 z6 = FrameOn h (now s0) (now s1) (now s2) (now s3) (now s4) (now s5) (now s6) m z0 z2 z4 z5 z6 r
 
   exits : (r : Answer) (m : Run) (z0 : List ℕ) (z2 : List ℕ) (z4 : List ℕ) (z5 : List ℕ) (z6 : List ℕ) (p : List ℕ) (v : Verdict) (c : ℕ) (y : Val) → Says r m z0 z2 z4 z5 z6 → p ≡ reportOf r → v ≡ verdictOf r → c ≡ verdictNumber v → length z0 ≡ length (now s0) → length z2 ≡ length (now s2) → length z4 ≡ length (now s4) → length z5 ≡ length (now s5) → length z6 ≡ length (now s6) → ent 𝓤 (⋆ 𝓤 H A (‵ (fres γ (rRun.the-row .coded .code m)) ∷ ‵ (fobs γ′ ((Array u32 4) .coded .code p)) ∷ ‵ (fbor κ′ (Body (mem (Array u32 4)) b′ o′ γ′)) ∷ ‵ (flft κ′ q′) ∷ (‵ (flft κ q) ⊛ ‵ (flft κ0 q0) ⊛ ‵ (flft κ1 q1) ⊛ ‵ (flft κ2 q2) ⊛ ‵ (flft κ3 q3) ⊛ ‵ (flft κ4 q4) ⊛ ‵ (flft κ5 q5) ⊛ ‵ (flft κ6 q6) ⊛ ‵ ftrue) ∷ ‵ (finally u32 (s0 .name) z0) ∷ ‵ (finally u64 (s2 .name) z2) ∷ ‵ (finally u32 (s4 .name) z4) ∷ ‵ (finally u32 (s5 .name) z5) ∷ ‵ (finally u8 (s6 .name) z6) ∷ ‵ Own1 ∷ ‵ Own3 ∷ ‵ (u32 .own c (y ∷ [])) ∷ [])) (Post y)
   exits r m z0 z2 z4 z5 z6 p v c y e ep ev ec len0 len2 len4 len5 len6 =

@@ -41,7 +41,7 @@ use denote.Triple.Table.{entered, cited}
 use denote.Triple.Walked.{says, Stays, stay-ref, gave-ref, stay-none, gave-slice, walkOf, AllGo, goes-ref, goes-gave-ref, goes-none, goes-gave-slice, Walks, ends-at, walked, walk-meets}
 use denote.Exit.{yes as kept}
 use Rattle.star.specs.Refusals.{verdictNumber, verdictPlace}
-use Rattle.calls.specs.Runs.{Freshened, freshRun}
+use Rattle.calls.specs.Runs.{FreshOn}
 use Rattle.calls.specs.declared.record.Run.{Run}
 use Rattle.calls.proofs.record.Run as rRun
 use Rattle.star.specs.declared.refusals.Verdict.{Verdict}
@@ -108,7 +108,7 @@ module _ {M : Type 1} (𝓤 : URA M) (H : Heap 𝓤) (A : Atoms 𝓤) (W : Given
   Post = walkOf 𝓤 H A f.ended stayed (f.clauses 𝓤 H A at-mem run) .post (((κ, (κ4, (κ5, (κ6, (κ7, (κ′, tt)))))), (q, (q4, (q5, (q6, (q7, (q′, tt)))))), tt, x, at), tt)
 
   abbrev Says : Verdict → Run → List ℕ → List ℕ → List ℕ → List ℕ → Type 0
-  Says r m z4 z5 z6 z7 = (Freshened h n0 n1 n2 n3 (now s4) (now s5) (now s6) (now s7) z4 z5 z6 z7 r) × (m ≡ freshRun h n0 n1 n2 n3 r)
+  Says r m z4 z5 z6 z7 = FreshOn n0 n1 n2 n3 h (now s4) (now s5) (now s6) (now s7) m z4 z5 z6 z7 r
 
   exits : (r : Verdict) (m : Run) (z4 : List ℕ) (z5 : List ℕ) (z6 : List ℕ) (z7 : List ℕ) (p : ℕ) (c : ℕ) (y : Val) → Says r m z4 z5 z6 z7 → p ≡ verdictPlace r → c ≡ verdictNumber r → length z4 ≡ length (now s4) → length z5 ≡ length (now s5) → length z6 ≡ length (now s6) → length z7 ≡ length (now s7) → ent 𝓤 (⋆ 𝓤 H A (‵ (fres γ (rRun.the-row .coded .code m)) ∷ ‵ (fobs γ′ (u32 .coded .code p)) ∷ ‵ (fbor κ′ (Body (mem u32) b′ o′ γ′)) ∷ ‵ (flft κ′ q′) ∷ (‵ (flft κ q) ⊛ ‵ (flft κ4 q4) ⊛ ‵ (flft κ5 q5) ⊛ ‵ (flft κ6 q6) ⊛ ‵ (flft κ7 q7) ⊛ ‵ ftrue) ∷ ‵ (finally u32 (s4 .name) z4) ∷ ‵ (finally u64 (s5 .name) z5) ∷ ‵ (finally u64 (s6 .name) z6) ∷ ‵ (finally u64 (s7 .name) z7) ∷ ‵ (u32 .own c (y ∷ [])) ∷ [])) (Post y)
   exits r m z4 z5 z6 z7 p c y e ep ec len4 len5 len6 len7 =

@@ -41,7 +41,7 @@ use denote.Triple.Table.{entered, cited}
 use denote.Triple.Walked.{says, Stays, stay-ref, gave-ref, gave-slice, stay-none-slice, walkOf, AllGo, goes-ref, goes-gave-ref, goes-gave-slice, goes-none-slice, Walks, ends-at, walked, walk-meets}
 use denote.Exit.{yes as kept}
 use Rattle.star.specs.Refusals.{verdictNumber, verdictPlace}
-use Rattle.calls.specs.Runs.{Posted, postRun}
+use Rattle.calls.specs.Runs.{PostOn}
 use Rattle.calls.specs.declared.record.Run.{Run}
 use Rattle.calls.proofs.record.Run as rRun
 use Rattle.star.specs.declared.refusals.Verdict.{Verdict}
@@ -117,7 +117,7 @@ module _ {M : Type 1} (𝓤 : URA M) (H : Heap 𝓤) (A : Atoms 𝓤) (W : Given
   Post = walkOf 𝓤 H A f.ended stayed (f.clauses 𝓤 H A at-mem run) .post (((κ, (κ0, (κ1, (κ2, (κ3, (κ4, (κ′, tt))))))), (q, (q0, (q1, (q2, (q3, (q4, (q′, tt))))))), tt, x, at), tt)
 
   abbrev Says : Verdict → Run → List ℕ → List ℕ → List ℕ → Type 0
-  Says r m z1 z2 z4 = (Posted h (now s0) (now s1) (now s2) (now s3) (now s4) z1 z2 z4 r) × (m ≡ postRun h r)
+  Says r m z1 z2 z4 = PostOn (now s0) h (now s1) (now s2) (now s3) (now s4) m z1 z2 z4 r
 
   exits : (r : Verdict) (m : Run) (z1 : List ℕ) (z2 : List ℕ) (z4 : List ℕ) (p : ℕ) (c : ℕ) (y : Val) → Says r m z1 z2 z4 → p ≡ verdictPlace r → c ≡ verdictNumber r → length z1 ≡ length (now s1) → length z2 ≡ length (now s2) → length z4 ≡ length (now s4) → ent 𝓤 (⋆ 𝓤 H A (‵ (fres γ (rRun.the-row .coded .code m)) ∷ ‵ (fobs γ′ (u32 .coded .code p)) ∷ ‵ (fbor κ′ (Body (mem u32) b′ o′ γ′)) ∷ ‵ (flft κ′ q′) ∷ (‵ (flft κ q) ⊛ ‵ (flft κ0 q0) ⊛ ‵ (flft κ1 q1) ⊛ ‵ (flft κ2 q2) ⊛ ‵ (flft κ3 q3) ⊛ ‵ (flft κ4 q4) ⊛ ‵ ftrue) ∷ ‵ (finally u32 (s1 .name) z1) ∷ ‵ (finally u64 (s2 .name) z2) ∷ ‵ (finally u64 (s4 .name) z4) ∷ ‵ Own0 ∷ ‵ Own3 ∷ ‵ (u32 .own c (y ∷ [])) ∷ [])) (Post y)
   exits r m z1 z2 z4 p c y e ep ec len1 len2 len4 =

@@ -47,7 +47,8 @@ use denote.Exit.{yes as kept}
 use Rattle.star.specs.declared.refusals.Verdict.the-variants.{Accepted}
 use Rattle.planner.specs.declared.answers.Answer.the-variants as answer
 use Rattle.planner.specs.Plans.{verdictOf}
-use Rattle.calls.specs.Runs.{Framed, frameRun}
+use Rattle.calls.specs.Held.{frameRun, recordAfter}
+use Rattle.calls.specs.Runs.{FrameOn}
 use Rattle.calls.proofs.Outcomes.{frame-counted}
 use Rattle.planner.specs.declared.answers.Answer.{Answer}
 use Rattle.planner.proofs.answers.Answer as rAnswer
@@ -129,7 +130,7 @@ module _ {M : Type 1} (𝓤 : URA M) (H : Heap 𝓤) (A : Atoms 𝓤) (W : Given
   Was = Is rRun.the-row h (LL.vals rRun.the-type lRun.the-laws h)
 
   abbrev OnSays : Answer → List ℕ → List ℕ → List ℕ → List ℕ → List ℕ → Type 0
-  OnSays r z0 z2 z4 z5 z6 = Framed h (now s0) (now s1) (now s2) (now s3) (now s4) (now s5) (now s6) z0 z2 z4 z5 z6 r
+  OnSays r z0 z2 z4 z5 z6 = FrameOn h (now s0) (now s1) (now s2) (now s3) (now s4) (now s5) (now s6) (recordAfter (verdictOf r) (frameRun h) h) z0 z2 z4 z5 z6 r
 
   abbrev mach : ℕ → Val
   mach m0 = vstruct (vcons (vint w32 (h .nodes)) (vcons (vint w32 (h .slots)) (vcons (vint w32 (h .limit)) (vcons (vint w32 (h .rule)) (vcons (vint w32 (h .posts)) (vcons (vint w32 m0) vnil))))))
@@ -138,24 +139,24 @@ module _ {M : Type 1} (𝓤 : URA M) (H : Heap 𝓤) (A : Atoms 𝓤) (W : Given
   made m0 g0 was = let all = LL.owed rRun.the-type lRun.the-laws h (LL.vals rRun.the-type lRun.the-laws h) was in LL.owes rRun.the-type lRun.the-laws (with-it h m0) (all .0, (all .1 .0, (all .1 .1 .0, (all .1 .1 .1 .0, (all .1 .1 .1 .1 .0, (g0, tt))))))
 
   abbrev AfterSays : Answer → Run → Type 0
-  AfterSays r m = m ≡ frameRun h (verdictOf r)
+  AfterSays r m = m ≡ recordAfter (verdictOf r) (frameRun h) h
 
   abbrev Anew : ℕ → Type 0
-  Anew m0 = m0 ≡ frameRun h Accepted .frames
+  Anew m0 = m0 ≡ frameRun h .frames
 
   abbrev AfterAsks : Type 0
   AfterAsks = h .frames < 1000000
 
   -- by the cases of the answer: what its tag is, and what is then said of the record
   by-answer {ℓ} : {X : Type ℓ} (r : Answer) → ((vs : Vals) → only (EL.vals rAnswer.the-type lAnswer.the-laws r) ≡ live 0 vs → verdictOf r ≡ Accepted → ((m0 : ℕ) → Anew m0 → AfterSays r (with-it h m0)) → X) → ((vs : Vals) → only (EL.vals rAnswer.the-type lAnswer.the-laws r) ≡ live 1 vs → AfterSays r h → X) → X
-  unfolding frameRun
-  by-answer (answer.Planned x y z) f g = f _ refl refl (λ m0 anew. ap (with-it h) anew)
+  unfolding recordAfter
+  by-answer (answer.Planned x) f g = f _ refl refl (λ m0 anew. ap (with-it h) anew)
   by-answer (answer.Refused x) f g = g _ refl refl
 
   exits : (r : Answer) (u : Val) (z0 : List ℕ) (z2 : List ℕ) (z4 : List ℕ) (z5 : List ℕ) (z6 : List ℕ) (m : Run) → OnSays r z0 z2 z4 z5 z6 → AfterSays r m → length z0 ≡ length (now s0) → length z2 ≡ length (now s2) → length z4 ≡ length (now s4) → length z5 ≡ length (now s5) → length z6 ≡ length (now s6) → ent 𝓤 (⋆ 𝓤 H A (‵ (fobs γ (rRun.the-row .coded .code m)) ∷ ‵ (fbor κ (Body (mem rRun.the-row) b o γ)) ∷ ‵ (flft κ q) ∷ (‵ (flft κ0 q0) ⊛ ‵ (flft κ1 q1) ⊛ ‵ (flft κ2 q2) ⊛ ‵ (flft κ3 q3) ⊛ ‵ (flft κ4 q4) ⊛ ‵ (flft κ5 q5) ⊛ ‵ (flft κ6 q6) ⊛ ‵ ftrue) ∷ ‵ (finally u32 (s0 .name) z0) ∷ ‵ (finally u64 (s2 .name) z2) ∷ ‵ (finally u32 (s4 .name) z4) ∷ ‵ (finally u32 (s5 .name) z5) ∷ ‵ (finally u8 (s6 .name) z6) ∷ ‵ Own1 ∷ ‵ Own3 ∷ ‵ (rAnswer.the-row .own r (u ∷ [])) ∷ [])) (Post u)
   exits r u z0 z2 z4 z5 z6 m e e2 len0 len2 len4 len5 len6 =
       qed W (‵ (fobs γ (rRun.the-row .coded .code m)) ∷ ‵ (fbor κ (Body (mem rRun.the-row) b o γ)) ∷ ‵ (flft κ q) ∷ (‵ (flft κ0 q0) ⊛ ‵ (flft κ1 q1) ⊛ ‵ (flft κ2 q2) ⊛ ‵ (flft κ3 q3) ⊛ ‵ (flft κ4 q4) ⊛ ‵ (flft κ5 q5) ⊛ ‵ (flft κ6 q6) ⊛ ‵ ftrue) ∷ ‵ (finally u32 (s0 .name) z0) ∷ ‵ (finally u64 (s2 .name) z2) ∷ ‵ (finally u32 (s4 .name) z4) ∷ ‵ (finally u32 (s5 .name) z5) ∷ ‵ (finally u8 (s6 .name) z6) ∷ ‵ Own1 ∷ ‵ Own3 ∷ ‵ (rAnswer.the-row .own r (u ∷ [])) ∷ []) ∵
-      suffices ! _ (ends-at 𝓤 H A f.ended stayed (f.clauses 𝓤 H A at-mem run) W (((κ, (κ0, (κ1, (κ2, (κ3, (κ4, (κ5, (κ6, tt)))))))), (q, (q0, (q1, (q2, (q3, (q4, (q5, (q6, tt)))))))), tt, x, at), tt) u r (m, (z0, (tt, (z2, (tt, (z4, (z5, (z6, tt)))))))) (tt, (len0, (tt, (len2, (tt, (len4, (len5, (len6, tt))))))))) $ says ! (e, e2) $ move ! (2 ∷ 3 ∷ []) $ join ! $ frame ! $ feqI ! (List Val) (vptr b o ∷ []) (vptr b o ∷ []) refl $ fjoin3 ! $ nothing ! $ move ! (6 ∷ 0 ∷ []) $ fjoin ! $ move ! (5 ∷ 0 ∷ []) $ fjoin ! $ move ! (4 ∷ 0 ∷ []) $ fjoin ! $ move ! (5 ∷ 0 ∷ []) $ fjoin ! $ move ! (3 ∷ 0 ∷ []) $ fjoin ! $ move ! (3 ∷ 0 ∷ []) $ fjoin ! $ move ! (2 ∷ 0 ∷ []) $ fjoin ! $ move ! (1 ∷ 0 ∷ []) $ fjoin ! $ frame ! $ done !
+      suffices ! _ (ends-at 𝓤 H A f.ended stayed (f.clauses 𝓤 H A at-mem run) W (((κ, (κ0, (κ1, (κ2, (κ3, (κ4, (κ5, (κ6, tt)))))))), (q, (q0, (q1, (q2, (q3, (q4, (q5, (q6, tt)))))))), tt, x, at), tt) u r (m, (z0, (tt, (z2, (tt, (z4, (z5, (z6, tt)))))))) (tt, (len0, (tt, (len2, (tt, (len4, (len5, (len6, tt))))))))) $ says ! (subst (λ (run : Run). FrameOn h (now s0) (now s1) (now s2) (now s3) (now s4) (now s5) (now s6) run z0 z2 z4 z5 z6 r) (sym e2) e) $ move ! (2 ∷ 3 ∷ []) $ join ! $ frame ! $ feqI ! (List Val) (vptr b o ∷ []) (vptr b o ∷ []) refl $ fjoin3 ! $ nothing ! $ move ! (6 ∷ 0 ∷ []) $ fjoin ! $ move ! (5 ∷ 0 ∷ []) $ fjoin ! $ move ! (4 ∷ 0 ∷ []) $ fjoin ! $ move ! (5 ∷ 0 ∷ []) $ fjoin ! $ move ! (3 ∷ 0 ∷ []) $ fjoin ! $ move ! (3 ∷ 0 ∷ []) $ fjoin ! $ move ! (2 ∷ 0 ∷ []) $ fjoin ! $ move ! (1 ∷ 0 ∷ []) $ fjoin ! $ frame ! $ done !
 
   abbrev to-on : On 𝓤 H A at-mem run .Ghost
   to-on = (((κ0, (κ1, (κ2, (κ3, (κ4, (κ5, (κ6, tt))))))), (q0, (q1, (q2, (q3, (q4, (q5, (q6, tt))))))), tt, (h, (s0, (s1, (s2, (s3, (s4, (s5, (s6, tt)))))))), (hv ∷ [], (v0 ∷ [], (v1 ∷ [], (v2 ∷ [], (v3 ∷ [], (v4 ∷ [], (v5 ∷ [], (v6 ∷ [], tt))))))))), tt)

@@ -1,6 +1,6 @@
 -- `fresh` meets its contract, by a walk of its code: the record is copied out and `fresh_on` is called; where it answers `Accepted`, the record
 -- that `started` returns is stored, and where it does not, nothing is stored in the record. Assumes nothing.
-use mathlib.Core.Path.{_≡_, refl, sym, ap, _∙_}
+use mathlib.Core.Path.{_≡_, refl, sym, ap, _∙_, subst}
 use Prim.Native.Nat.{ℕ, _<_, _^_}
 use mathlib.Core.List.{[], _∷_, List}
 use lib.ListN.{length}
@@ -44,7 +44,8 @@ use denote.Triple.Table.{entered, cited}
 use denote.Triple.Walked.{says, Stays, stay-ref, stay-none, gave-slice, walkOf, AllGo, goes-ref, goes-none, goes-gave-slice, Walks, ends-at, walked, walk-meets}
 use denote.Exit.{yes as kept}
 use Rattle.star.specs.declared.refusals.Verdict.the-variants.{Accepted, Refused}
-use Rattle.calls.specs.Runs.{Freshened, freshRun}
+use Rattle.calls.specs.Held.{freshRun, recordAfter}
+use Rattle.calls.specs.Runs.{FreshOn}
 use Rattle.calls.specs.declared.record.Run.{Run}
 use Rattle.calls.proofs.record.Run as rRun
 use Rattle.calls.proofs.record.Run.Laws as lRun
@@ -107,24 +108,24 @@ module _ {M : Type 1} (𝓤 : URA M) (H : Heap 𝓤) (A : Atoms 𝓤) (W : Given
   Was = Is rRun.the-row h (LL.vals rRun.the-type lRun.the-laws h)
 
   abbrev OnSays : Verdict → List ℕ → List ℕ → List ℕ → List ℕ → Type 0
-  OnSays r z4 z5 z6 z7 = Freshened h n0 n1 n2 n3 (now s4) (now s5) (now s6) (now s7) z4 z5 z6 z7 r
+  OnSays r z4 z5 z6 z7 = FreshOn n0 n1 n2 n3 h (now s4) (now s5) (now s6) (now s7) (recordAfter r (freshRun n0 n1 n2 n3) h) z4 z5 z6 z7 r
 
   abbrev AfterSays : Verdict → Run → Type 0
-  AfterSays r m = m ≡ freshRun h n0 n1 n2 n3 r
+  AfterSays r m = m ≡ recordAfter r (freshRun n0 n1 n2 n3) h
 
   abbrev Anew : Run → Type 0
-  Anew m = (old : Run) → m ≡ freshRun old n0 n1 n2 n3 Accepted
+  Anew m = m ≡ freshRun n0 n1 n2 n3
 
   -- by the cases of the answer: what its tag is, and what is then said of the record
   by-answer {ℓ} : {X : Type ℓ} (r : Verdict) → ((vs : Vals) → only (EL.vals rVerdict.the-type lVerdict.the-laws r) ≡ live 0 vs → ((m : Run) → Anew m → AfterSays r m) → X) → ((vs : Vals) → only (EL.vals rVerdict.the-type lVerdict.the-laws r) ≡ live 1 vs → AfterSays r h → X) → X
-  unfolding freshRun
-  by-answer Accepted f g = f _ refl (λ m anew. anew h)
+  unfolding recordAfter
+  by-answer Accepted f g = f _ refl (λ m anew. anew)
   by-answer (Refused x) f g = g _ refl refl
 
   exits : (r : Verdict) (u : Val) (z4 : List ℕ) (z5 : List ℕ) (z6 : List ℕ) (z7 : List ℕ) (m : Run) → OnSays r z4 z5 z6 z7 → AfterSays r m → length z4 ≡ length (now s4) → length z5 ≡ length (now s5) → length z6 ≡ length (now s6) → length z7 ≡ length (now s7) → ent 𝓤 (⋆ 𝓤 H A (‵ (fobs γ (rRun.the-row .coded .code m)) ∷ ‵ (fbor κ (Body (mem rRun.the-row) b o γ)) ∷ ‵ (flft κ q) ∷ (‵ (flft κ4 q4) ⊛ ‵ (flft κ5 q5) ⊛ ‵ (flft κ6 q6) ⊛ ‵ (flft κ7 q7) ⊛ ‵ ftrue) ∷ ‵ (finally u32 (s4 .name) z4) ∷ ‵ (finally u64 (s5 .name) z5) ∷ ‵ (finally u64 (s6 .name) z6) ∷ ‵ (finally u64 (s7 .name) z7) ∷ ‵ (rVerdict.the-row .own r (u ∷ [])) ∷ [])) (Post u)
   exits r u z4 z5 z6 z7 m e e2 len4 len5 len6 len7 =
       qed W (‵ (fobs γ (rRun.the-row .coded .code m)) ∷ ‵ (fbor κ (Body (mem rRun.the-row) b o γ)) ∷ ‵ (flft κ q) ∷ (‵ (flft κ4 q4) ⊛ ‵ (flft κ5 q5) ⊛ ‵ (flft κ6 q6) ⊛ ‵ (flft κ7 q7) ⊛ ‵ ftrue) ∷ ‵ (finally u32 (s4 .name) z4) ∷ ‵ (finally u64 (s5 .name) z5) ∷ ‵ (finally u64 (s6 .name) z6) ∷ ‵ (finally u64 (s7 .name) z7) ∷ ‵ (rVerdict.the-row .own r (u ∷ [])) ∷ []) ∵
-      suffices ! _ (ends-at 𝓤 H A f.ended stayed (f.clauses 𝓤 H A at-mem run) W (((κ, (κ4, (κ5, (κ6, (κ7, tt))))), (q, (q4, (q5, (q6, (q7, tt))))), tt, x, at), tt) u r (m, (tt, (tt, (tt, (tt, (z4, (z5, (z6, (z7, tt))))))))) (tt, (tt, (tt, (tt, (tt, (len4, (len5, (len6, (len7, tt)))))))))) $ says ! (e, e2) $ move ! (2 ∷ 3 ∷ []) $ join ! $ frame ! $ feqI ! (List Val) (vptr b o ∷ []) (vptr b o ∷ []) refl $ fjoin3 ! $ nothing ! $ move ! (5 ∷ 0 ∷ []) $ fjoin ! $ move ! (4 ∷ 0 ∷ []) $ fjoin ! $ move ! (3 ∷ 0 ∷ []) $ fjoin ! $ move ! (2 ∷ 0 ∷ []) $ fjoin ! $ owned ! u32 (Is u32) (uint-makes 𝓤 H A W w32) n3 _ (refl, fits3) $ fjoin ! $ owned ! u32 (Is u32) (uint-makes 𝓤 H A W w32) n2 _ (refl, fits2) $ fjoin ! $ owned ! u32 (Is u32) (uint-makes 𝓤 H A W w32) n1 _ (refl, fits1) $ fjoin ! $ owned ! u32 (Is u32) (uint-makes 𝓤 H A W w32) n0 _ (refl, fits0) $ fjoin ! $ move ! (1 ∷ 0 ∷ []) $ fjoin ! $ frame ! $ done !
+      suffices ! _ (ends-at 𝓤 H A f.ended stayed (f.clauses 𝓤 H A at-mem run) W (((κ, (κ4, (κ5, (κ6, (κ7, tt))))), (q, (q4, (q5, (q6, (q7, tt))))), tt, x, at), tt) u r (m, (tt, (tt, (tt, (tt, (z4, (z5, (z6, (z7, tt))))))))) (tt, (tt, (tt, (tt, (tt, (len4, (len5, (len6, (len7, tt)))))))))) $ says ! (subst (λ (run : Run). FreshOn n0 n1 n2 n3 h (now s4) (now s5) (now s6) (now s7) run z4 z5 z6 z7 r) (sym e2) e) $ move ! (2 ∷ 3 ∷ []) $ join ! $ frame ! $ feqI ! (List Val) (vptr b o ∷ []) (vptr b o ∷ []) refl $ fjoin3 ! $ nothing ! $ move ! (5 ∷ 0 ∷ []) $ fjoin ! $ move ! (4 ∷ 0 ∷ []) $ fjoin ! $ move ! (3 ∷ 0 ∷ []) $ fjoin ! $ move ! (2 ∷ 0 ∷ []) $ fjoin ! $ owned ! u32 (Is u32) (uint-makes 𝓤 H A W w32) n3 _ (refl, fits3) $ fjoin ! $ owned ! u32 (Is u32) (uint-makes 𝓤 H A W w32) n2 _ (refl, fits2) $ fjoin ! $ owned ! u32 (Is u32) (uint-makes 𝓤 H A W w32) n1 _ (refl, fits1) $ fjoin ! $ owned ! u32 (Is u32) (uint-makes 𝓤 H A W w32) n0 _ (refl, fits0) $ fjoin ! $ move ! (1 ∷ 0 ∷ []) $ fjoin ! $ frame ! $ done !
 
   abbrev to-on : On 𝓤 H A at-mem run .Ghost
   to-on = (((κ4, (κ5, (κ6, (κ7, tt)))), (q4, (q5, (q6, (q7, tt)))), tt, (h, (n0, (n1, (n2, (n3, (s4, (s5, (s6, (s7, tt))))))))), (hv ∷ [], (vint w32 n0 ∷ [], (vint w32 n1 ∷ [], (vint w32 n2 ∷ [], (vint w32 n3 ∷ [], (v4 ∷ [], (v5 ∷ [], (v6 ∷ [], (v7 ∷ [], tt)))))))))), tt)

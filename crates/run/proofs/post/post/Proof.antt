@@ -45,7 +45,8 @@ use denote.Triple.Table.{entered, cited}
 use denote.Triple.Walked.{says, Stays, stay-ref, gave-slice, stay-none-slice, walkOf, AllGo, goes-ref, goes-gave-slice, goes-none-slice, Walks, ends-at, walked, walk-meets}
 use denote.Exit.{yes as kept}
 use Rattle.star.specs.declared.refusals.Verdict.the-variants.{Accepted, Refused}
-use Rattle.calls.specs.Runs.{Posted, postRun}
+use Rattle.calls.specs.Held.{postRun, recordAfter}
+use Rattle.calls.specs.Runs.{PostOn}
 use Rattle.calls.proofs.Outcomes.{post-counted}
 use Rattle.calls.specs.declared.record.Run.{Run}
 use Rattle.calls.proofs.record.Run as rRun
@@ -121,7 +122,7 @@ module _ {M : Type 1} (𝓤 : URA M) (H : Heap 𝓤) (A : Atoms 𝓤) (W : Given
   Was = Is rRun.the-row h (LL.vals rRun.the-type lRun.the-laws h)
 
   abbrev OnSays : Verdict → List ℕ → List ℕ → List ℕ → Type 0
-  OnSays r z1 z2 z4 = Posted h (now s0) (now s1) (now s2) (now s3) (now s4) z1 z2 z4 r
+  OnSays r z1 z2 z4 = PostOn (now s0) h (now s1) (now s2) (now s3) (now s4) (recordAfter r (postRun h) h) z1 z2 z4 r
 
   abbrev mach : ℕ → Val
   mach m0 = vstruct (vcons (vint w32 (h .nodes)) (vcons (vint w32 (h .slots)) (vcons (vint w32 (h .limit)) (vcons (vint w32 (h .rule)) (vcons (vint w32 m0) (vcons (vint w32 (h .frames)) vnil))))))
@@ -130,24 +131,24 @@ module _ {M : Type 1} (𝓤 : URA M) (H : Heap 𝓤) (A : Atoms 𝓤) (W : Given
   made m0 g0 was = let all = LL.owed rRun.the-type lRun.the-laws h (LL.vals rRun.the-type lRun.the-laws h) was in LL.owes rRun.the-type lRun.the-laws (with-it h m0) (all .0, (all .1 .0, (all .1 .1 .0, (all .1 .1 .1 .0, (g0, (all .1 .1 .1 .1 .1 .0, tt))))))
 
   abbrev AfterSays : Verdict → Run → Type 0
-  AfterSays r m = m ≡ postRun h r
+  AfterSays r m = m ≡ recordAfter r (postRun h) h
 
   abbrev Anew : ℕ → Type 0
-  Anew m0 = m0 ≡ postRun h Accepted .posts
+  Anew m0 = m0 ≡ postRun h .posts
 
   abbrev AfterAsks : Type 0
   AfterAsks = h .posts < 1000000
 
   -- by the cases of the answer: what its tag is, and what is then said of the record
   by-answer {ℓ} : {X : Type ℓ} (r : Verdict) → ((vs : Vals) → only (EL.vals rVerdict.the-type lVerdict.the-laws r) ≡ live 0 vs → r ≡ Accepted → ((m0 : ℕ) → Anew m0 → AfterSays r (with-it h m0)) → X) → ((vs : Vals) → only (EL.vals rVerdict.the-type lVerdict.the-laws r) ≡ live 1 vs → AfterSays r h → X) → X
-  unfolding postRun
+  unfolding recordAfter
   by-answer Accepted f g = f _ refl refl (λ m0 anew. ap (with-it h) anew)
   by-answer (Refused x) f g = g _ refl refl
 
   exits : (r : Verdict) (u : Val) (z1 : List ℕ) (z2 : List ℕ) (z4 : List ℕ) (m : Run) → OnSays r z1 z2 z4 → AfterSays r m → length z1 ≡ length (now s1) → length z2 ≡ length (now s2) → length z4 ≡ length (now s4) → ent 𝓤 (⋆ 𝓤 H A (‵ (fobs γ (rRun.the-row .coded .code m)) ∷ ‵ (fbor κ (Body (mem rRun.the-row) b o γ)) ∷ ‵ (flft κ q) ∷ (‵ (flft κ0 q0) ⊛ ‵ (flft κ1 q1) ⊛ ‵ (flft κ2 q2) ⊛ ‵ (flft κ3 q3) ⊛ ‵ (flft κ4 q4) ⊛ ‵ ftrue) ∷ ‵ (finally u32 (s1 .name) z1) ∷ ‵ (finally u64 (s2 .name) z2) ∷ ‵ (finally u64 (s4 .name) z4) ∷ ‵ Own0 ∷ ‵ Own3 ∷ ‵ (rVerdict.the-row .own r (u ∷ [])) ∷ [])) (Post u)
   exits r u z1 z2 z4 m e e2 len1 len2 len4 =
       qed W (‵ (fobs γ (rRun.the-row .coded .code m)) ∷ ‵ (fbor κ (Body (mem rRun.the-row) b o γ)) ∷ ‵ (flft κ q) ∷ (‵ (flft κ0 q0) ⊛ ‵ (flft κ1 q1) ⊛ ‵ (flft κ2 q2) ⊛ ‵ (flft κ3 q3) ⊛ ‵ (flft κ4 q4) ⊛ ‵ ftrue) ∷ ‵ (finally u32 (s1 .name) z1) ∷ ‵ (finally u64 (s2 .name) z2) ∷ ‵ (finally u64 (s4 .name) z4) ∷ ‵ Own0 ∷ ‵ Own3 ∷ ‵ (rVerdict.the-row .own r (u ∷ [])) ∷ []) ∵
-      suffices ! _ (ends-at 𝓤 H A f.ended stayed (f.clauses 𝓤 H A at-mem run) W (((κ, (κ0, (κ1, (κ2, (κ3, (κ4, tt)))))), (q, (q0, (q1, (q2, (q3, (q4, tt)))))), tt, x, at), tt) u r (m, (tt, (z1, (z2, (tt, (z4, tt)))))) (tt, (tt, (len1, (len2, (tt, (len4, tt))))))) $ says ! (e, e2) $ move ! (2 ∷ 3 ∷ []) $ join ! $ frame ! $ feqI ! (List Val) (vptr b o ∷ []) (vptr b o ∷ []) refl $ fjoin3 ! $ nothing ! $ move ! (4 ∷ 0 ∷ []) $ fjoin ! $ move ! (5 ∷ 0 ∷ []) $ fjoin ! $ move ! (3 ∷ 0 ∷ []) $ fjoin ! $ move ! (2 ∷ 0 ∷ []) $ fjoin ! $ move ! (2 ∷ 0 ∷ []) $ fjoin ! $ move ! (1 ∷ 0 ∷ []) $ fjoin ! $ frame ! $ done !
+      suffices ! _ (ends-at 𝓤 H A f.ended stayed (f.clauses 𝓤 H A at-mem run) W (((κ, (κ0, (κ1, (κ2, (κ3, (κ4, tt)))))), (q, (q0, (q1, (q2, (q3, (q4, tt)))))), tt, x, at), tt) u r (m, (tt, (z1, (z2, (tt, (z4, tt)))))) (tt, (tt, (len1, (len2, (tt, (len4, tt))))))) $ says ! (subst (λ (run : Run). PostOn (now s0) h (now s1) (now s2) (now s3) (now s4) run z1 z2 z4 r) (sym e2) e) $ move ! (2 ∷ 3 ∷ []) $ join ! $ frame ! $ feqI ! (List Val) (vptr b o ∷ []) (vptr b o ∷ []) refl $ fjoin3 ! $ nothing ! $ move ! (4 ∷ 0 ∷ []) $ fjoin ! $ move ! (5 ∷ 0 ∷ []) $ fjoin ! $ move ! (3 ∷ 0 ∷ []) $ fjoin ! $ move ! (2 ∷ 0 ∷ []) $ fjoin ! $ move ! (2 ∷ 0 ∷ []) $ fjoin ! $ move ! (1 ∷ 0 ∷ []) $ fjoin ! $ frame ! $ done !
 
   abbrev to-on : On 𝓤 H A at-mem run .Ghost
   to-on = (((κ0, (κ1, (κ2, (κ3, (κ4, tt))))), (q0, (q1, (q2, (q3, (q4, tt))))), tt, (h, (s0, (s1, (s2, (s3, (s4, tt)))))), (hv ∷ [], (v0 ∷ [], (v1 ∷ [], (v2 ∷ [], (v3 ∷ [], (v4 ∷ [], tt))))))), tt)
