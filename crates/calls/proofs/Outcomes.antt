@@ -93,8 +93,8 @@ module _ {arrivals : List ℕ} {h : Held} (fits : PostFits arrivals h) where
   post-drops = record { arrives = post-arrives; amounts = tables .drops; few = λ p lt. omega (arith, fits .balanced .books p lt, fits .few) }
 
 -- the count of posts can rise where a post is accepted
-pub post-counted : {arrivals : List ℕ} {h h' : Held} {v : Verdict} → Posted arrivals h h' v → v ≡ Accepted → h .run .posts < 1000000
-post-counted {arrivals} {h} p e = post-accepted arrivals h (sym (p .answer) ∙ e) .few
+pub post-counted : (arrivals : List ℕ) {h h' : Held} {v : Verdict} → Posted arrivals h h' v → v ≡ Accepted → h .run .posts < 1000000
+post-counted arrivals {h} p e = post-accepted arrivals h (sym (p .answer) ∙ e) .few
 
 -- ---- frame
 module _ (k : Lent) (h : Held) {v : Verdict} (is : v ≡ frameVerdict h (length (k .kept)) (length (k .withdrawn)) (length (k .schedule))) where
@@ -144,5 +144,5 @@ module _ {h : Held} {k : Lent} (fits : FrameFits h k) where
     }
 
 -- the count of frames can rise where a frame is accepted
-pub frame-counted : {k k' : Lent} {h h' : Held} {r : Answer} → Framed k k' h h' r → verdictOf r ≡ Accepted → h .run .frames < 1000000
-frame-counted {k} {h = h} p e = frame-accepted h k (sym (p .answer) ∙ e) .few
+pub frame-counted : {k k' : Lent} {h h' : Held} (r : Answer) → Framed k k' h h' r → verdictOf r ≡ Accepted → h .run .frames < 1000000
+frame-counted {k} {h = h} r p e = frame-accepted h k (sym (p .answer) ∙ e) .few

@@ -99,7 +99,7 @@ pub record FrameDone (k k' : Lent) (h h' : Held) (f : Report) : Type 0 where
 -- what `frame` promises
 abbrev pub Framed : (k k' : Lent) (h h' : Held) (r : Answer) → Type 0
 Framed k k' h h' r =
-    Promise (verdictOf r) (frameVerdict h (length (k .kept)) (length (k .withdrawn)) (length (k .schedule)))
+    Promise {S = Held × Lent} (verdictOf r) (frameVerdict h (length (k .kept)) (length (k .withdrawn)) (length (k .schedule)))
     (frameNotice h (length (k .kept)) (length (k .withdrawn)) (length (k .schedule)))
     (h, k) (h', k') (FrameDone k k' h h' (reportOf r))
 

@@ -73,9 +73,9 @@ fresh-theorems = record {
 }
 
 -- ---- post
-pub post-lengths : {arrivals : List ℕ} {h h' : Held} (v : Verdict) → Posted arrivals h h' v → SameLengths h h'
-post-lengths (Refused x) c = lengths-same (c .refused x refl)
-post-lengths {arrivals} {h} Accepted c =
+pub post-lengths : (arrivals : List ℕ) {h h' : Held} (v : Verdict) → Posted arrivals h h' v → SameLengths h h'
+post-lengths arrivals (Refused x) c = lengths-same (c .refused x refl)
+post-lengths arrivals {h} Accepted c =
     let room = post-accepted arrivals h (sym (c .answer)) .long-enough in
     let n = h .run .nodes in
     subst (λ x. SameLengths h x) (sym (c .accepted refl)) (record {
@@ -120,5 +120,5 @@ post-theorems = record {
   needed = λ a b h h' g g' v₁ v₂ c d given same.
       let e : v₁ ≡ v₂ = c .answer ∙ alike-post same given ∙ sym (d .answer) in
       (e, post-alike a b h h' g g' given same v₁ c (subst (Posted b g g') (sym e) d));
-  lengths = λ arrivals h h' v c. post-lengths v c;
+  lengths = λ arrivals h h' v c. post-lengths arrivals v c;
 }

@@ -72,23 +72,23 @@ eight : {v : Verdict} {numbers : Notice} {p : ℕ} → noticeOf v ≡ numbers �
 eight told e = ap (λ x. x .number) (sym told ∙ ap noticeOf e)
 
 module _ {n l limit rule : ℕ} {es : List Event} {h h' : Held} (now : Now n l limit rule es h) (p : ℕ) where
-  post-not-eight : {arrivals : List ℕ} {v : Verdict} → Posted arrivals h h' v → v ≡ Refused (BooksDisagree p) → ⊥
+  post-not-eight : (arrivals : List ℕ) {v : Verdict} → Posted arrivals h h' v → v ≡ Refused (BooksDisagree p) → ⊥
   unfolding postNotice
-  post-not-eight c e =
+  post-not-eight arrivals c e =
       let nodes = other _ _ _ _ (eight (c .notice) e) (λ q. omega arith) in
       let slots = other _ _ _ _ nodes (λ q. omega arith) in
       let rules = other _ _ _ _ slots (λ q. omega arith) in
       let limits = other _ _ _ _ rules (λ q. omega arith) in
-      let arrivals = other _ _ _ _ limits (λ q. omega arith) in
-      let tables = other _ _ _ _ arrivals (λ q. omega arith) in
+      let lengths = other _ _ _ _ limits (λ q. omega arith) in
+      let tables = other _ _ _ _ lengths (λ q. omega arith) in
       let books = over _ _ _ _ tables (passes-books now) in
       let count = other _ _ _ _ books (λ q. omega arith) in
       let last = other _ _ _ _ count (λ q. omega arith) in
       omega (arith, last)
 
-  frame-not-eight : {lent plan : Lent} {r : Answer} → Framed lent plan h h' r → verdictOf r ≡ Refused (BooksDisagree p) → ⊥
+  frame-not-eight : {lent plan : Lent} (r : Answer) → Framed lent plan h h' r → verdictOf r ≡ Refused (BooksDisagree p) → ⊥
   unfolding frameNotice
-  frame-not-eight c e =
+  frame-not-eight r c e =
       let nodes = other _ _ _ _ (eight (c .notice) e) (λ q. omega arith) in
       let slots = other _ _ _ _ nodes (λ q. omega arith) in
       let rules = other _ _ _ _ slots (λ q. omega arith) in
@@ -110,8 +110,8 @@ fresh-not-eight c e =
     omega (arith, last)
 
 happens-not-eight : {n l limit rule : ℕ} {es : List Event} {h : Held} → Now n l limit rule es h → (p : ℕ) (e : Event) (h' : Held) → Happens e h h' → outcome e ≡ Refused (BooksDisagree p) → ⊥
-happens-not-eight now p (posting arrivals v) h' c = post-not-eight now p c
-happens-not-eight now p (framing lent plan r) h' c = frame-not-eight now p c
+happens-not-eight now p (posting arrivals v) h' c = post-not-eight now p arrivals c
+happens-not-eight now p (framing lent plan r) h' c = frame-not-eight now p r c
 happens-not-eight now p (restarting n l limit rule x) h' c = fresh-not-eight c
 
 -- ---- the theorem

@@ -131,7 +131,7 @@ now-unmoved {n} {l} {limit} {rule} {e} {es} {h} u same now = subst (λ x. Now n 
 })
 
 -- ---- a post
-module _ {n l limit rule : ℕ} {es : List Event} {arrivals : List ℕ} {h h' : Held} (now : Now n l limit rule es h) (c : Posted arrivals h h' Accepted) (i j : ℕ) (hi : i < n) (hj : j < n) where
+module _ {n l limit rule : ℕ} {es : List Event} (arrivals : List ℕ) {h h' : Held} (now : Now n l limit rule es h) (c : Posted arrivals h h' Accepted) (i j : ℕ) (hi : i < n) (hj : j < n) where
   more-posted : cell n (h' .posted) i j ≡ cell n (h .posted) i j + cell n arrivals i j
   more-posted = ap (λ x. cell n (x .posted) i j) (c .accepted refl) ∙ ap (λ m. cell n (more m arrivals (h .posted)) i j) (now .nodes) ∙ more-cell n i j hi hj arrivals (h .posted)
 
@@ -156,24 +156,24 @@ module _ {n l limit rule : ℕ} {es : List Event} {arrivals : List ℕ} {h h' : 
   unfolding cell
   arrival-most = (rw (now .nodes) at (post-accepted arrivals h (sym (c .answer)) .within)) .most (i * n + j) (cell-lt n i j hi hj)
 
-now-posted : {n l limit rule : ℕ} {es : List Event} {arrivals : List ℕ} {h h' : Held} → Now n l limit rule es h → Posted arrivals h h' Accepted → Now n l limit rule (posting arrivals Accepted ∷ es) h'
+now-posted : {n l limit rule : ℕ} {es : List Event} (arrivals : List ℕ) {h h' : Held} → Now n l limit rule es h → Posted arrivals h h' Accepted → Now n l limit rule (posting arrivals Accepted ∷ es) h'
 unfolding arrived carried queue exceeded postsOf framesOf
-now-posted now c = let done = c .accepted refl in record {
+now-posted arrivals now c = let done = c .accepted refl in record {
   ranges = now .ranges;
-  long-enough = still-long (now .long-enough) (post-lengths Accepted c);
+  long-enough = still-long (now .long-enough) (post-lengths arrivals Accepted c);
   nodes = ap (λ x. x .run .nodes) done ∙ now .nodes;
   slots = ap (λ x. x .run .slots) done ∙ now .slots;
   limits = ap (λ x. x .run .limit) done ∙ now .limits;
   rules = ap (λ x. x .run .rule) done ∙ now .rules;
   posts = omega (arith, ap (λ x. x .run .posts) done, now .posts);
   frames = ap (λ x. x .run .frames) done ∙ now .frames;
-  posted = λ i j hi hj. omega (arith, more-posted now c i j hi hj, now .posted i j hi hj);
-  sent = λ i j hi hj. same-sent now c i j hi hj ∙ now .sent i j hi hj;
-  dropped = λ i j hi hj. omega (arith, more-dropped now c i j hi hj, now .dropped i j hi hj, now .waiting i j hi hj);
-  waiting = λ i j hi hj. omega (arith, more-waiting now c i j hi hj, now .waiting i j hi hj);
+  posted = λ i j hi hj. omega (arith, more-posted arrivals now c i j hi hj, now .posted i j hi hj);
+  sent = λ i j hi hj. same-sent arrivals now c i j hi hj ∙ now .sent i j hi hj;
+  dropped = λ i j hi hj. omega (arith, more-dropped arrivals now c i j hi hj, now .dropped i j hi hj, now .waiting i j hi hj);
+  waiting = λ i j hi hj. omega (arith, more-waiting arrivals now c i j hi hj, now .waiting i j hi hj);
   short-enough = λ i j hi hj. omega arith;
   balance = λ i j hi hj. omega (arith, now .balance i j hi hj);
-  possible = λ i j hi hj. omega (arith, now .possible i j hi hj, arrival-most now c i j hi hj);
+  possible = λ i j hi hj. omega (arith, now .possible i j hi hj, arrival-most arrivals now c i j hi hj);
 }
 
 -- ---- a frame
@@ -229,7 +229,7 @@ now-framed {lent = lent} {plan = plan} {f = f} {h = h} {h' = h'} now c = let don
 -- ---- every moment
 module _ {n l limit rule : ℕ} where
   now-after : (e : Event) {es : List Event} {h h' : Held} → Now n l limit rule es h → Happens e h h' → Now n l limit rule (e ∷ es) h'
-  now-after (posting arrivals Accepted) now c = now-posted now c
+  now-after (posting arrivals Accepted) now c = now-posted arrivals now c
   now-after (posting arrivals (Refused r)) {es} now c = now-unmoved (post-unmoved n l limit es arrivals r) (c .refused r refl) now
   now-after (framing lent plan (answer.Planned f)) now c = now-framed now c
   now-after (framing lent plan (answer.Refused r)) {es} now c = now-unmoved (frame-unmoved n l limit es lent plan r) (ap (λ x. x .0) (c .refused r refl)) now

@@ -1,36 +1,40 @@
--- `fresh_verdict` meets its contract: the shared checks, then its own. Assumes nothing.
 use mathlib.Core.Path.{sym, _∙_}
-use borrow.Author.Needs.{needs}
-use Rattle.star.proofs.RefusalLaws.{fires, passes, ranges-fire, ranges-pass, ranged}
+use Rattle.star.proofs.RefusalLaws.{then-stops, then-goes, ranged}
 use Rattle.calls.specs.Runs.{freshVerdict}
+use borrow.Author.Needs.{needs}
 use Rattle.calls.proofs.fresh.fresh_verdict.Statement.{statement}
 use Rattle.calls.proofs.fresh.fresh_verdict.Tie as tie
+use Rattle.calls.proofs.fresh.fresh_verdict.Reads as reads
+use Rattle.calls.proofs.fresh.fresh_verdict.Lts as lts
+use Rattle.calls.proofs.checks.held_short.Reads as held-short-reads
+use Rattle.star.proofs.checks.ranges.Reads as ranges-reads
 
+-- src/fresh.rt:25:9
 ranges-requires : tie.Need-ranges-requires
 ranges-requires c κs = search needs
 
 enum-told : tie.Need-enum-told
 enum-told c = search needs
 
+-- src/fresh.rt:27:9
 enum-told-2 : tie.Need-enum-told-2
 enum-told-2 c = search needs
 
+-- src/fresh.rt:27:9
 returns : tie.Need-returns
 unfolding freshVerdict
-returns c = let a = c .before .before .before .args in ranges-fire (a .nodes) (a .slots) (a .rule) (a .limit) _ (c .before .before .ranges .ensures) (c .enum-told2 .given .1)
+returns c = then-stops _ (c .before .before .ranges .ensures) (c .enum-told2 .given .1)
 
-short-requires : tie.Need-short-requires
-short-requires c κs = let a = c .before .before .before .args in ranged (a .nodes) (a .slots) (a .rule) (a .limit) (c .before .before .ranges .ensures) (c .enum-told .given .1) .nodes
+-- src/fresh.rt:29:5
+held-short-requires : tie.Need-held-short-requires
+held-short-requires c κs = ranged (c .before .before .before .args .nodes) (c .before .before .before .args .slots) (c .before .before .before .args .rule) (c .before .before .before .args .limit) (sym (c .before .before .ranges .ensures) ∙ c .enum-told .given .1) .sizes .nodes
 
+-- src/fresh.rt:13:1
 returns-2 : tie.Need-returns-2
 unfolding freshVerdict
-returns-2 c = let a = c .before .before .before .before .before .args in ranges-pass (a .nodes) (a .slots) (a .rule) (a .limit) (c .before .before .before .before .ranges .ensures) (c .before .before .enum-told .given .1) (fires _ (sym (c .before .short .ensures) ∙ c .if1 .taken))
-
-returns-3 : tie.Need-returns-3
-unfolding freshVerdict
-returns-3 c = let a = c .before .before .before .before .before .args in ranges-pass (a .nodes) (a .slots) (a .rule) (a .limit) (c .before .before .before .before .ranges .ensures) (c .before .before .enum-told .given .1) (passes _ (sym (c .before .short .ensures) ∙ c .if1 .left) (c .before .before .enum-told .given .1))
+returns-2 c = then-goes (c .before .before .before .ranges .ensures) (c .before .enum-told .given .1) (c .held-short .ensures)
 
 pub fresh-verdict-spec : {M : Type 1} → statement M
 fresh-verdict-spec =
     tie.close
-    (tie.spec ranges-requires enum-told enum-told-2 returns short-requires returns-2 returns-3)
+    (tie.spec ranges-requires enum-told enum-told-2 returns held-short-requires returns-2)

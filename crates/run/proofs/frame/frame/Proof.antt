@@ -204,7 +204,7 @@ module _ {M : Type 1} (𝓤 : URA M) (H : Heap 𝓤) (A : Atoms 𝓤) (W : Given
         land ! (from ! (stop !)) (init ! 36 refl (EL.lawful rAnswer.the-type lAnswer.the-laws 𝓤 H A W tt .typed r _ is .0)) $
         by-answer r (λ vs tag accepted held.
         rewrite ! 36 (λ (z : Val). ‵ (fat fullShare (spell mir′.table (pointee (rAnswer.the-row .written))) l10 0 z)) (ap only (EL.tells rAnswer.the-type lAnswer.the-laws r _ is) ∙ tag) refl $ fits ! (load ! (from ! (vrt ! refl (fld ! refl (stop !)))) (look-tag ! 36 (whole !))) $ rewrite ! 36 (λ (z : Val). ‵ (fat fullShare (spell mir′.table (pointee (rAnswer.the-row .written))) l10 0 z)) (sym (ap only (EL.tells rAnswer.the-type lAnswer.the-laws r _ is) ∙ tag)) refl $
-        move ! (3 ∷ []) $ use1 W (raw (After 𝓤 H A at-mem run .pre to-after)) (goes-after was (frame-counted e accepted)) $ calls-at ! fm (After 𝓤 H A at-mem run) known-after to-after (and-then ! (load ! (from ! (stop !)) (look ! 38 refl)) (no-more !)) (λ y0.
+        move ! (3 ∷ []) $ use1 W (raw (After 𝓤 H A at-mem run .pre to-after)) (goes-after was (frame-counted r e accepted)) $ calls-at ! fm (After 𝓤 H A at-mem run) known-after to-after (and-then ! (load ! (from ! (stop !)) (look ! 38 refl)) (no-more !)) (λ y0.
         use1 W (later (some (λ (m0 : ℕ). (‵ ftrue ⊛ ‵ (u32 .own m0 (y0 ∷ []))) ⊛ raw (ensured 𝓤 H A after.ended (after.clauses 𝓤 H A at-mem run) tt (h, tt) tt m0)))) (id⊢ 𝓤 _) $ await ! tt $ pick ! (λ m0. split ! $ move ! (1 ∷ []) $ use1 W (raw (fact 𝓤 (Anew m0))) (said m0) $ heard ! (Anew m0) (λ anew. split ! $ drop ! $ peeks ! u32 (Is u32) (shows 𝓤 H A u32) m0 (y0 ∷ []) (λ is2. drop ! $
         land ! (from ! (stop !)) (init ! 13 refl ((uint-lawful 𝓤 H A W w32) .typed m0 _ is2 .0)) $ rewrite ! 13 (λ (z : Val). ‵ (fat fullShare (tyInt w32) l21 0 z)) (ap only ((uint-tells w32) m0 _ is2)) refl $
         assigns ! (of-opd ! (load ! (from ! (stop !)) (look ! 13 refl))) (from ! (hop ! (look ! 53 refl) (fld ! refl (stop !)))) (store-in ! 9 (sub ! 5 refl (whole !)) (subst (λ (z : Val). Holds (hasTy (tyInt w32) z) × WT z) (ap only ((uint-tells w32) m0 _ is2)) ((uint-lawful 𝓤 H A W w32) .typed m0 _ is2 .0))) $

@@ -192,7 +192,7 @@ module _ {M : Type 1} (𝓤 : URA M) (H : Heap 𝓤) (A : Atoms 𝓤) (W : Given
         land ! (from ! (stop !)) (init ! 26 refl (EL.lawful rVerdict.the-type lVerdict.the-laws 𝓤 H A W tt .typed r _ is .0)) $
         by-answer r (λ vs tag accepted held.
         rewrite ! 26 (λ (z : Val). ‵ (fat fullShare (spell mir′.table (pointee (rVerdict.the-row .written))) l8 0 z)) (ap only (EL.tells rVerdict.the-type lVerdict.the-laws r _ is) ∙ tag) refl $ fits ! (load ! (from ! (vrt ! refl (fld ! refl (stop !)))) (look-tag ! 26 (whole !))) $ rewrite ! 26 (λ (z : Val). ‵ (fat fullShare (spell mir′.table (pointee (rVerdict.the-row .written))) l8 0 z)) (sym (ap only (EL.tells rVerdict.the-type lVerdict.the-laws r _ is) ∙ tag)) refl $
-        move ! (3 ∷ []) $ use1 W (raw (After 𝓤 H A at-mem run .pre to-after)) (goes-after was (post-counted e accepted)) $ calls-at ! fm (After 𝓤 H A at-mem run) known-after to-after (and-then ! (load ! (from ! (stop !)) (look ! 28 refl)) (no-more !)) (λ y0.
+        move ! (3 ∷ []) $ use1 W (raw (After 𝓤 H A at-mem run .pre to-after)) (goes-after was (post-counted (now s0) e accepted)) $ calls-at ! fm (After 𝓤 H A at-mem run) known-after to-after (and-then ! (load ! (from ! (stop !)) (look ! 28 refl)) (no-more !)) (λ y0.
         use1 W (later (some (λ (m0 : ℕ). (‵ ftrue ⊛ ‵ (u32 .own m0 (y0 ∷ []))) ⊛ raw (ensured 𝓤 H A after.ended (after.clauses 𝓤 H A at-mem run) tt (h, tt) tt m0)))) (id⊢ 𝓤 _) $ await ! tt $ pick ! (λ m0. split ! $ move ! (1 ∷ []) $ use1 W (raw (fact 𝓤 (Anew m0))) (said m0) $ heard ! (Anew m0) (λ anew. split ! $ drop ! $ peeks ! u32 (Is u32) (shows 𝓤 H A u32) m0 (y0 ∷ []) (λ is2. drop ! $
         land ! (from ! (stop !)) (init ! 11 refl ((uint-lawful 𝓤 H A W w32) .typed m0 _ is2 .0)) $ rewrite ! 11 (λ (z : Val). ‵ (fat fullShare (tyInt w32) l15 0 z)) (ap only ((uint-tells w32) m0 _ is2)) refl $
         assigns ! (of-opd ! (load ! (from ! (stop !)) (look ! 11 refl))) (from ! (hop ! (look ! 39 refl) (fld ! refl (stop !)))) (store-in ! 7 (sub ! 4 refl (whole !)) (subst (λ (z : Val). Holds (hasTy (tyInt w32) z) × WT z) (ap only ((uint-tells w32) m0 _ is2)) ((uint-lawful 𝓤 H A W w32) .typed m0 _ is2 .0))) $
