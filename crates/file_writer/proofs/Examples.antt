@@ -7,14 +7,16 @@ use lib.ListN.{replicate}
 use Rattle.sums.specs.Searches.{firstBelow, firstFrom}
 use Rattle.sums.specs.Sums.{sumTo}
 use Rattle.sums.specs.Tables.{tab, written}
-use Rattle.star.specs.declared.refusals.Refusal.the-variants.{DemandAbove}
-use Rattle.star.specs.declared.refusals.Verdict.the-variants.{Accepted, Refused}
-use Rattle.star.specs.Refusals.{Notice, notice, noticeOf, refuse}
+use Rattle.star.specs.declared.refusals.Refusal.the-variants.{TableShort}
+use Rattle.star.specs.declared.refusals.Verdict.the-variants.{Accepted}
+use Rattle.star.specs.Refusals.{Notice, notice, noticeOf, refuse, then}
+use Rattle.star.specs.Checks.{sizesVerdict, ruleVerdict, settingsVerdict, rangesVerdict}
 use Rattle.pieces.specs.Pieces.{joinTo}
-use Rattle.files.specs.declared.output.Output.the-variants as output
+use Rattle.files.specs.declared.output.Output.{Output}
 use Rattle.files.specs.Format.{post, frame, Scenario}
+use Rattle.files.specs.Output.{outputVerdict, outputLength}
 use Rattle.file_writer.specs.Bytes.{postsTo, entryFrom, scenarioFrom, twoBytes, fourBytes, sizesBytes, entryBytes, cellBytes, fileBytes, fileLength}
-use Rattle.file_writer.specs.Writing.{firstUnknown, cellsVerdict, writeVerdict, writeAnswer, writeAfter}
+use Rattle.file_writer.specs.Writing.{firstUnknown, cellsVerdict, writeVerdict, WriteResult}
 
 -- ---- Low bytes come first.
 two-bytes : map twoBytes (0 ∷ 255 ∷ 256 ∷ 65535 ∷ []) ≡ (0 ∷ 0 ∷ []) ∷ (255 ∷ 0 ∷ []) ∷ (0 ∷ 1 ∷ []) ∷ (255 ∷ 255 ∷ []) ∷ []
@@ -50,18 +52,19 @@ case-n-tables : scenarioFrom 1 4 6 1 (0 ∷ 1 ∷ 0 ∷ 1 ∷ []) (10 ∷ 3 ∷ 
 unfolding scenarioFrom entryFrom postsTo tab sumTo
 case-n-tables = refl
 
--- the length is answered; the bytes behind the file are as before, and a refusal writes nothing
-case-n-answer : writeAnswer Accepted 1 (0 ∷ 1 ∷ 0 ∷ 1 ∷ []) ≡ output.Bytes 56
-unfolding writeAnswer postsTo sumTo
-case-n-answer = refl
+-- the length is answered; the bytes behind the file are as before, and where one is missing nothing is written
+case-n-answer : (out out' : List ℕ) (r : Output) → WriteResult 1 4 6 1 (0 ∷ 1 ∷ 0 ∷ 1 ∷ []) (10 ∷ 3 ∷ []) out out' r → outputVerdict r ≡ Accepted → outputLength r ≡ 56
+unfolding postsTo sumTo
+case-n-answer out out' r x ok = x .accepted ok .size
 
-no-entries-after : writeAfter Accepted 1 4 6 1 [] [] (replicate 22 9) ≡ 1 ∷ 0 ∷ 0 ∷ 0 ∷ 4 ∷ 0 ∷ 0 ∷ 0 ∷ 6 ∷ 0 ∷ 0 ∷ 0 ∷ 1 ∷ 0 ∷ 0 ∷ 0 ∷ 0 ∷ 0 ∷ 0 ∷ 0 ∷ 9 ∷ 9 ∷ []
-unfolding writeAfter fileBytes sizesBytes fourBytes twoBytes postsTo joinTo sumTo written
-no-entries-after = refl
+no-entries-after : (out' : List ℕ) (r : Output) → WriteResult 1 4 6 1 [] [] (replicate 22 9) out' r → outputVerdict r ≡ Accepted →
+    out' ≡ 1 ∷ 0 ∷ 0 ∷ 0 ∷ 4 ∷ 0 ∷ 0 ∷ 0 ∷ 6 ∷ 0 ∷ 0 ∷ 0 ∷ 1 ∷ 0 ∷ 0 ∷ 0 ∷ 0 ∷ 0 ∷ 0 ∷ 0 ∷ 9 ∷ 9 ∷ []
+unfolding fileBytes sizesBytes fourBytes twoBytes postsTo joinTo sumTo written
+no-entries-after out' r x ok = x .accepted ok .bytes
 
-refused-after : writeAfter (Refused (DemandAbove 1)) 1 4 6 1 [] [] (replicate 22 9) ≡ replicate 22 9
-unfolding writeAfter
-refused-after = refl
+refused-after : (out' : List ℕ) (r : Output) → WriteResult 1 4 6 1 [] [] (replicate 19 9) out' r → out' ≡ replicate 19 9
+unfolding writeVerdict rangesVerdict settingsVerdict ruleVerdict sizesVerdict cellsVerdict then refuse firstUnknown firstBelow firstFrom postsTo sumTo
+refused-after out' r x = x .refused TableShort (x .answer)
 
 -- ---- two nodes, a post, a frame, a post: the first matrix stands after the table, at 44, the second 8 bytes on; 0 for the frame
 two-posts : map (entryBytes 2 (0 ∷ 1 ∷ 0 ∷ [])) (0 ∷ 1 ∷ 2 ∷ []) ≡ (0 ∷ 0 ∷ 0 ∷ 0 ∷ 44 ∷ 0 ∷ 0 ∷ 0 ∷ []) ∷ (1 ∷ 0 ∷ 0 ∷ 0 ∷ 0 ∷ 0 ∷ 0 ∷ 0 ∷ []) ∷ (0 ∷ 0 ∷ 0 ∷ 0 ∷ 52 ∷ 0 ∷ 0 ∷ 0 ∷ []) ∷ []
@@ -74,8 +77,8 @@ unfolding entryFrom postsTo tab sumTo
 second-post = refl
 
 -- ---- what is refused, given how many bytes are lent
-abbrev writes : (n l limit rule : ℕ) (kinds cells : List ℕ) (room : ℕ) → Notice
-writes n l limit rule kinds cells room = noticeOf (writeVerdict n l limit rule kinds cells room)
+abbrev writes : (n l limit rule : ℕ) (kinds cells : List ℕ) (bytes : ℕ) → Notice
+writes n l limit rule kinds cells bytes = noticeOf (writeVerdict n l limit rule kinds cells bytes)
 
 -- 10 at place 0; 1, 2, 3, 7; 10 at an entry; 4, 5, 6.
 pub record WriteGives : Type 0 where
@@ -103,7 +106,7 @@ pub record WriteGives : Type 0 where
   pub cut-table : writes 1 1 1 0 [] [] 19 ≡ notice 5 0
 
 write-gives : WriteGives
-unfolding writeVerdict cellsVerdict refuse firstUnknown firstBelow firstFrom postsTo sumTo
+unfolding writeVerdict rangesVerdict settingsVerdict ruleVerdict sizesVerdict cellsVerdict then refuse firstUnknown firstBelow firstFrom postsTo sumTo
 write-gives = record {
   many-entries = refl;
   most-entries = refl;

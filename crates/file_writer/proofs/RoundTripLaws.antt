@@ -15,17 +15,14 @@ use Rattle.sums.specs.Sums.{bit}
 use Rattle.sums.specs.Tables.{tab}
 use Rattle.sums.proofs.Cases.{by-eq}
 use Rattle.sums.proofs.Tables.{tab-ext, written-first}
-use Rattle.star.specs.declared.refusals.Refusal.{Refusal}
-use Rattle.star.specs.declared.refusals.Verdict.{Verdict}
-use Rattle.star.specs.declared.refusals.Verdict.the-variants.{Accepted, Refused}
 use Rattle.pieces.specs.Pieces.{joinTo}
 use Rattle.pieces.proofs.PieceLaws.{join-at}
-use Rattle.files.specs.declared.output.Output.the-variants as output
+use Rattle.files.specs.declared.output.Output.the-variants.{Bytes}
 use Rattle.files.specs.Format.{two, four, nodesOf, slotsOf, limitOf, ruleOf, entriesOf, kindOf, placeOf, tableEnd, matrixAt, post, entryOf, scenarioOf}
 use Rattle.files.proofs.ReadLaws.{Good, Sound, sound-accepted, table-read}
 use Rattle.file_writer.specs.Bytes.{postsTo, cellsIn, twoBytes, fourBytes, sizesBytes, placeAfter, entryBytes, cellBytes, fileBytes, fileLength, entryFrom, scenarioFrom}
 use Rattle.file_writer.specs.Theorems.{ReadsBack}
-use Rattle.file_writer.specs.Writing.{writeVerdict, writeAnswer, writeAfter, WriteResult}
+use Rattle.file_writer.specs.Writing.{WriteResult}
 use Rattle.file_writer.proofs.ByteLaws.{length-sizes, length-entry, length-entries, length-cell, length-file, posts-more, posts-part}
 use Rattle.file_writer.proofs.WriteLaws.{CanWrite, can-write}
 
@@ -199,7 +196,7 @@ module _ (n l limit rule : ℕ) (kinds cells : List ℕ) where
       = ap (λ m. tab m (entryOf (fileBytes n l limit rule kinds cells))) entries-back ∙ tab-ext (length kinds) _ _ (λ e h. entry-back e h) in
       rw (nodes-back, slots-back, limit-back, rule-back, same) refl
 
-  module _ {room : ℕ} (w : CanWrite n l limit rule kinds cells room) where
+  module _ {bytes : ℕ} (w : CanWrite n l limit rule kinds cells bytes) where
     size : length (fileBytes n l limit rule kinds cells) ≡ fileLength n kinds
     size = length-file n l limit rule kinds cells
 
@@ -230,18 +227,9 @@ module _ (n l limit rule : ℕ) (kinds cells : List ℕ) where
         }
 
 -- ---- what was written, cut to its length
-never-refused : {r : Refusal} {size : ℕ} → output.Refused r ≡ output.Bytes size → ⊥
-never-refused e = let z : _≡_ {A = ℕ} 0 1 = cc in omega arith
-
-back : (n l limit rule : ℕ) (kinds cells out out' : List ℕ) (size : ℕ) (v : Verdict) → writeVerdict n l limit rule kinds cells (length out) ≡ v → output.Bytes size ≡ writeAnswer v n kinds →
-    out' ≡ writeAfter v n l limit rule kinds cells out → ReadsBack n l limit rule kinds cells (take size out')
-unfolding writeAnswer writeAfter
-back n l limit rule kinds cells out out' size (Refused r) e a b = absurd (never-refused (sym a))
-back n l limit rule kinds cells out out' size Accepted e a b =
-    let long : size ≡ fileLength n kinds = cc in
+pub round-trip : (n l limit rule : ℕ) (kinds cells out out' : List ℕ) (size : ℕ) → WriteResult n l limit rule kinds cells out out' (Bytes size) → ReadsBack n l limit rule kinds cells (take size out')
+round-trip n l limit rule kinds cells out out' size w =
+    let done = w .accepted refl in
     let cut : take size out' ≡ fileBytes n l limit rule kinds cells
-    = ap₂ take long b ∙ written-first (fileLength n kinds) (fileBytes n l limit rule kinds cells) out (length-file n l limit rule kinds cells) in
-    rw cut (reads-back n l limit rule kinds cells (can-write n l limit rule kinds cells (length out) e))
-
-pub round-trip : (n l limit rule : ℕ) (kinds cells out out' : List ℕ) (size : ℕ) → WriteResult n l limit rule kinds cells out out' (output.Bytes size) → ReadsBack n l limit rule kinds cells (take size out')
-round-trip n l limit rule kinds cells out out' size w = back n l limit rule kinds cells out out' size _ refl (w .answer) (w .after)
+    = ap₂ take (done .size) (done .bytes) ∙ written-first (fileLength n kinds) (fileBytes n l limit rule kinds cells) out (length-file n l limit rule kinds cells) in
+    rw cut (reads-back n l limit rule kinds cells (can-write n l limit rule kinds cells (length out) (sym (w .answer))))

@@ -46,9 +46,9 @@ fn first_wide(n: usize, posts: usize, cells: &[u32]) -> usize
 }
 
 // Missing cells (4), too few bytes (5), a cell above 65,535 (6).
-fn cells_verdict(n: usize, kinds: &[u32], cells: &[u32], room: usize) -> Verdict
+fn cells_verdict(n: usize, kinds: &[u32], cells: &[u32], bytes: usize) -> Verdict
     requires { ⌜ (n ≤ 64) × (length (now kinds) ≤ 4096) ⌝ }
-    ensures { λ v. ⌜ v ≡ cellsVerdict n (now (kinds .entry)) (now (cells .entry)) room ⌝ }
+    ensures { λ v. ⌜ v ≡ cellsVerdict n (now (kinds .entry)) (now (cells .entry)) bytes ⌝ }
 {
     let posts = count_posts(kinds);
     let count = posts * (n * n);
@@ -57,7 +57,7 @@ fn cells_verdict(n: usize, kinds: &[u32], cells: &[u32], room: usize) -> Verdict
             refusal: Refusal::DemandShort,
         };
     }
-    if room < 20 + 8 * kinds.len() + 2 * count {
+    if bytes < 20 + 8 * kinds.len() + 2 * count {
         return Verdict::Refused {
             refusal: Refusal::TableShort,
         };
@@ -79,9 +79,9 @@ fn write_verdict(
     rule: u32,
     kinds: &[u32],
     cells: &[u32],
-    room: usize,
+    bytes: usize,
 ) -> Verdict
-    ensures { λ v. ⌜ v ≡ writeVerdict nodes slots limit rule (now (kinds .entry)) (now (cells .entry)) room ⌝ }
+    ensures { λ v. ⌜ v ≡ writeVerdict nodes slots limit rule (now (kinds .entry)) (now (cells .entry)) bytes ⌝ }
 {
     let entries = kinds.len();
     if entries > 4096 {
@@ -101,12 +101,10 @@ fn write_verdict(
             },
         };
     }
-    cells_verdict(nodes as usize, kinds, cells, room)
+    cells_verdict(nodes as usize, kinds, cells, bytes)
 }
 
-// Writes the file of the tables and gives its length; bytes behind it are as before. Refused, in this order: over 4,096 entries (10, place 0),
-// N (1), L (2), the rule (3), B (7), an unknown kind (10, place the entry), missing cells (4), too few bytes (5), a cell above 65,535 (6, place
-// the cell in the table of all cells); then nothing is written.
+// Writes the file of the tables and gives its length; bytes behind it are as before. A refusal, in the order of `writeNotice`, writes nothing.
 pub fn write_file(
     nodes: u32,
     slots: u32,

@@ -13,9 +13,9 @@ use Rattle.star.specs.declared.refusals.Refusal.{Refusal}
 use Rattle.star.specs.declared.refusals.Refusal.the-variants.{BadFile}
 use Rattle.star.specs.declared.refusals.Verdict.{Verdict}
 use Rattle.star.specs.declared.refusals.Verdict.the-variants.{Accepted, Refused}
-use Rattle.star.specs.Checks.{rangesVerdict, Ranges}
-use Rattle.star.specs.Refusals.{noticeOf}
-use Rattle.star.proofs.RefusalLaws.{fires, passes, in-numbers, passed, neither, neither-of, ranges-fire, ranges-pass, ranges-fit, in-ranges, ranged}
+use Rattle.star.specs.Refusals.{Notice, noticeOf, check, then, nodesOut, slotsOut, ruleOut, limitOut}
+use Rattle.star.specs.Checks.{sizesVerdict, ruleVerdict, settingsVerdict, rangesVerdict, Ranges}
+use Rattle.star.proofs.RefusalLaws.{passes, in-numbers, passed, then-goes, then-passed, group-in-numbers, neither, neither-of, ranges-fit, ranged}
 use Rattle.files.specs.declared.reading.Reading.{Reading}
 use Rattle.files.specs.declared.reading.Reading.the-variants.{Table}
 use Rattle.files.specs.declared.reading.Reading.the-variants as reading
@@ -94,13 +94,13 @@ pub record Sound (file : List ℕ) : Type 0 where
 pub accepted-sound : (file : List ℕ) → readVerdict file ≡ Accepted → Sound file
 unfolding readVerdict firstBad entryBad
 accepted-sound file e =
-    let a = passed _ _ _ e in
-    let b = in-ranges _ _ _ _ (a .1) in
-    let c = passed _ _ _ (b .1) in
+    let a = then-passed _ _ e in
+    let b = then-passed _ _ (a .1) in
+    let none = ltb-false (firstBad (nodesOf file) (entriesOf file) file) (entriesOf file) (passed _ _ _ (b .1) .0) in
     record {
-      table = table-whole file (a .0);
-      ranges = b .0;
-      entries = λ k h. entry-good _ _ _ _ _ (first-before (entryBad (nodesOf file) (entriesOf file) file) (entriesOf file) k (let none = ltb-false (firstBad (nodesOf file) (entriesOf file) file) (entriesOf file) (c .0) in omega (arith, none)));
+      table = table-whole file (passed _ _ _ (a .0) .0);
+      ranges = ranged _ _ _ _ (b .0);
+      entries = λ k h. entry-good _ _ _ _ _ (first-before (entryBad (nodesOf file) (entriesOf file) file) (entriesOf file) k (omega (arith, none)));
     }
 
 pub sound-accepted : (file : List ℕ) → Sound file → readVerdict file ≡ Accepted
@@ -109,37 +109,29 @@ sound-accepted file s =
     let none : firstBad (nodesOf file) (entriesOf file) file ≡ entriesOf file
     = first-none (entryBad (nodesOf file) (entriesOf file) file) (entriesOf file) (λ e h. good-entry _ _ _ _ _ (s .entries e h)) in
     sym
-    (passes (BadFile 0) (neither _ _ (neither _ _ (le-ltb _ _ (s .table .head)) (le-ltb _ _ (s .table .few))) (le-ltb _ _ (s .table .all)))
-    (ranges-fit _ _ _ _ (s .ranges) (passes _ (le-ltb (firstBad (nodesOf file) (entriesOf file) file) (entriesOf file) (omega (arith, none))) refl)))
-
--- ---- the verdict once the table is whole and 1, 2, 3 and 7 are judged
-module _ (file : List ℕ) {n l rule limit : ℕ} {v : Verdict} (whole : tableBad file ≡ false) (hn : n ≡ nodesOf file) (hl : l ≡ slotsOf file) (hr : rule ≡ ruleOf file) (hb : limit ≡ limitOf file) (is : v ≡ rangesVerdict n l rule limit) where
-  its-ranges : v ≡ rangesVerdict (nodesOf file) (slotsOf file) (ruleOf file) (limitOf file)
-  its-ranges = rw (hn, hl, hr, hb) at is
-
-  pub read-ranges : {r : Refusal} → v ≡ Refused r → v ≡ readVerdict file
-  unfolding readVerdict
-  read-ranges fired = passes _ whole (ranges-fire _ _ _ _ _ its-ranges fired)
-
-  pub read-nodes : v ≡ Accepted → n ≤ 64
-  read-nodes e = ranged n l rule limit is e .nodes
-
-  module _ {entries bad : ℕ} (accepted : v ≡ Accepted) (he : entries ≡ entriesOf file) (found : bad ≡ firstBad n entries file) where
-    there : bad ≡ firstBad (nodesOf file) (entriesOf file) file
-    there = found ∙ rw (hn, he) refl
-
-    pub read-entry : bad < entries → Refused (BadFile bad) ≡ readVerdict file
-    unfolding readVerdict
-    read-entry h = passes _ whole (ranges-pass _ _ _ _ its-ranges accepted (rw (← there, ← he) (fires _ (lt-ltb bad entries h))))
-
-    pub read-done : entries ≤ bad → v ≡ readVerdict file
-    unfolding readVerdict
-    read-done h = passes _ whole (ranges-pass _ _ _ _ its-ranges accepted (rw (← there, ← he) (passes _ (le-ltb bad entries h) accepted)))
+    (then-goes (passes (BadFile 0) (neither _ _ (neither _ _ (le-ltb _ _ (s .table .head)) (le-ltb _ _ (s .table .few))) (le-ltb _ _ (s .table .all))) refl) refl
+    (then-goes (ranges-fit _ _ _ _ (s .ranges)) refl
+    (passes _ (le-ltb (firstBad (nodesOf file) (entriesOf file) file) (entriesOf file) (omega (arith, none))) refl)))
 
 -- ---- what is answered, by names and in numbers
+-- a group of groups is made one after the other too
+then-joined : (a b c : Verdict) → then (then a b) c ≡ then a (then b c)
+unfolding then
+then-joined Accepted b c = refl
+then-joined (Refused r) b c = refl
+
+-- the checks 1, 2, 3, 7 and the later ones
+pub ranges-in-numbers : (n l rule limit : ℕ) (later : Verdict) {rest : Notice} → noticeOf later ≡ rest →
+    noticeOf (then (rangesVerdict n l rule limit) later) ≡ check (nodesOut n) 1 0 (check (slotsOut l) 2 0 (check (ruleOut rule) 3 0 (check (limitOut limit) 7 0 rest)))
+unfolding rangesVerdict settingsVerdict ruleVerdict sizesVerdict then
+ranges-in-numbers n l rule limit later e =
+    ap noticeOf (then-joined (sizesVerdict n l) (settingsVerdict rule limit) later)
+    ∙ group-in-numbers _ _ _ _ (group-in-numbers _ _ _ _
+    (ap noticeOf (then-joined (ruleVerdict rule) _ later) ∙ group-in-numbers _ _ _ _ (group-in-numbers _ _ _ _ e)))
+
 read-notice : (file : List ℕ) → noticeOf (readVerdict file) ≡ readNotice file
-unfolding readVerdict readNotice
-read-notice file = in-numbers _ _ _ (in-numbers _ _ _ (in-numbers _ _ _ (in-numbers _ _ _ (in-numbers _ _ _ (in-numbers _ _ _ refl)))))
+unfolding readVerdict readNotice then
+read-notice file = group-in-numbers _ _ _ _ (ranges-in-numbers _ _ _ _ _ (in-numbers _ _ _ refl))
 
 answer-verdict : (v : Verdict) (file : List ℕ) → readingVerdict (readAnswer v file) ≡ v
 unfolding readAnswer

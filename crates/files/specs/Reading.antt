@@ -9,8 +9,8 @@ use Rattle.sums.specs.Searches.{firstBelow}
 use Rattle.star.specs.declared.refusals.Refusal.the-variants.{BadFile}
 use Rattle.star.specs.declared.refusals.Verdict.{Verdict}
 use Rattle.star.specs.declared.refusals.Verdict.the-variants as verdict
-use Rattle.star.specs.Refusals.{Notice, noticeOf, accepted, check, refuse, nodesOut, slotsOut, ruleOut, limitOut, someCell}
-use Rattle.star.specs.Checks.{rangesThen}
+use Rattle.star.specs.Refusals.{Notice, noticeOf, accepted, check, refuse, then, nodesOut, slotsOut, ruleOut, limitOut, someCell}
+use Rattle.star.specs.Checks.{rangesVerdict}
 use Rattle.files.specs.declared.reading.Reading.{Reading}
 use Rattle.files.specs.declared.reading.Reading.the-variants.{Table, Refused}
 use Rattle.files.specs.Format.{nodesOf, slotsOf, limitOf, ruleOf, entriesOf, kindOf, placeOf, tableEnd}
@@ -34,13 +34,12 @@ entryBad n entries file e = entryBadOf n entries (length file) (kindOf file e) (
 unfoldable pub firstBad : (n entries : ℕ) (file : List ℕ) → ℕ
 firstBad n entries file = firstBelow entries (entryBad n entries file)
 
--- 10, place 0, for a table cut short or over 4,096 entries; 1, 2, 3, 7; then 10, place the first bad entry.
+-- Reading 10 | 1, 2, 3, 7 | 10: first with place 0 for a table cut short or over 4,096 entries, then with the first bad entry as place.
 unfoldable pub readVerdict : (file : List ℕ) → Verdict
 readVerdict file =
-    refuse (tableBad file) (BadFile 0)
-    (rangesThen (nodesOf file) (slotsOf file) (ruleOf file) (limitOf file)
-    (refuse (someCell (entriesOf file) (firstBad (nodesOf file) (entriesOf file) file)) (BadFile (firstBad (nodesOf file) (entriesOf file) file))
-    verdict.Accepted))
+    then (refuse (tableBad file) (BadFile 0) verdict.Accepted)
+    (then (rangesVerdict (nodesOf file) (slotsOf file) (ruleOf file) (limitOf file))
+    (refuse (someCell (entriesOf file) (firstBad (nodesOf file) (entriesOf file) file)) (BadFile (firstBad (nodesOf file) (entriesOf file) file)) verdict.Accepted))
 
 -- the same in the documents' numbers, each with its place
 unfoldable pub readNotice : (file : List ℕ) → Notice

@@ -91,11 +91,10 @@ fn read_verdict(file: &[u8]) -> Verdict
             refusal: Refusal::BadFile { entry: bad as u32 },
         };
     }
-    v
+    Verdict::Accepted
 }
 
-// Reads a file: its table's numbers. Refused, in this order: a table cut short or over 4,096 entries (10, place 0), N (1), L (2), the rule (3),
-// B (7), the first bad entry (10, place the entry).
+// Reads a file: its table's numbers, or the first refusal in the order of `readNotice`.
 pub fn read(file: &[u8]) -> Reading
     ensures { λ r. ⌜ ReadResult (now (file .entry)) r ⌝ }
 {

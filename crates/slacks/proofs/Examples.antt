@@ -2,17 +2,19 @@
 use Prim.Native.Nat.{ℕ}
 use mathlib.Core.Path.{_≡_, refl}
 use mathlib.Core.List.{List, [], _∷_}
-use lib.IntN.{pos, negsuc}
+use lib.IntN.{ℤ, pos, negsuc}
 use Rattle.sums.specs.Sums.{sumTo}
 use Rattle.sums.specs.Searches.{firstBelow, firstFrom}
 use Rattle.sums.specs.Tables.{cell, tab, written}
+use Rattle.star.specs.declared.refusals.Verdict.{Verdict}
 use Rattle.star.specs.declared.refusals.Verdict.the-variants.{Accepted}
-use Rattle.star.specs.Refusals.{Notice, notice, noticeOf, refuse, firstAbove}
+use Rattle.star.specs.Refusals.{Notice, notice, noticeOf, refuse, then, firstAbove}
 use Rattle.star.specs.Lines.{slack, wholeFrame, lineSum, onLine, sourceOn, destinationOn}
-use Rattle.slacks.specs.Slacks.{slacksVerdict, slacksAfter}
+use Rattle.star.specs.Checks.{sizesVerdict, demandShortVerdict, demandAboveVerdict}
+use Rattle.slacks.specs.Slacks.{slacksVerdict, SlacksResult}
 
-abbrev given : (n l : ℕ) (d : List ℕ) (room : ℕ) → Notice
-given n l d room = noticeOf (slacksVerdict n l d room)
+abbrev given : (n l : ℕ) (d : List ℕ) (cells : ℕ) → Notice
+given n l d cells = noticeOf (slacksVerdict n l d cells)
 
 pub record Refusals : Type 0 where
   -- case o: N 0 and L 0 together: 1. N 65: 1. L 1,025: 2.
@@ -32,7 +34,7 @@ pub record Refusals : Type 0 where
   pub longer : given 1 1024 (65535 ∷ 70000 ∷ []) 3 ≡ notice 0 0
 
 pub refusals : Refusals
-unfolding slacksVerdict refuse firstAbove firstBelow firstFrom
+unfolding slacksVerdict sizesVerdict demandShortVerdict demandAboveVerdict then refuse firstAbove firstBelow firstFrom
 refusals = record {
   no-nodes = refl;
   many-nodes = refl;
@@ -47,6 +49,7 @@ refusals = record {
 }
 
 -- rows first, then columns; sum equal to L has slack 0; the cell beyond the 2N is as before
-written-slacks : slacksAfter Accepted 2 4 (3 ∷ 1 ∷ 3 ∷ 0 ∷ []) (pos 9 ∷ pos 9 ∷ pos 9 ∷ pos 9 ∷ pos 9 ∷ []) ≡ pos 0 ∷ pos 1 ∷ negsuc 1 ∷ pos 3 ∷ pos 9 ∷ []
-unfolding slacksAfter written tab slack wholeFrame lineSum onLine sourceOn destinationOn sumTo cell
-written-slacks = refl
+written-slacks : (table' : List ℤ) (v : Verdict) → SlacksResult 2 4 (3 ∷ 1 ∷ 3 ∷ 0 ∷ []) (pos 9 ∷ pos 9 ∷ pos 9 ∷ pos 9 ∷ pos 9 ∷ []) table' v → v ≡ Accepted →
+    table' ≡ pos 0 ∷ pos 1 ∷ negsuc 1 ∷ pos 3 ∷ pos 9 ∷ []
+unfolding written tab slack wholeFrame lineSum onLine sourceOn destinationOn sumTo cell
+written-slacks table' v x ok = x .accepted ok

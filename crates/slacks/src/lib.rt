@@ -1,6 +1,7 @@
 // The entry `slacks`: what is left of the frame on each line.
+use star::checks::demand_above;
+use star::checks::demand_short;
 use star::checks::sizes;
-use star::lines::first_above;
 use star::lines::line_sums;
 use star::lines::slack;
 use star::refusals::Refusal;
@@ -30,35 +31,27 @@ fn write_slacks(n: usize, cap: &[u32], demand: &[u32], table: &mut [i32])
 }
 
 // Which refusal is given, if any; the last number says how many cells the table has.
-fn slacks_verdict(nodes: u32, slots: u32, demand: &[u32], room: usize) -> Verdict
-    ensures { λ v. ⌜ v ≡ slacksVerdict nodes slots (now (demand .entry)) room ⌝ }
+fn slacks_verdict(nodes: u32, slots: u32, demand: &[u32], cells: usize) -> Verdict
+    ensures { λ v. ⌜ v ≡ slacksVerdict nodes slots (now (demand .entry)) cells ⌝ }
 {
     let v = sizes(nodes, slots);
     let Verdict::Accepted = v else {
         return v;
     };
     let n = nodes as usize;
-    if demand.len() < n * n {
-        return Verdict::Refused {
-            refusal: Refusal::DemandShort,
-        };
-    }
-    if room < 2 * n {
+    let v = demand_short(n, demand.len());
+    let Verdict::Accepted = v else {
+        return v;
+    };
+    if cells < 2 * n {
         return Verdict::Refused {
             refusal: Refusal::TableShort,
         };
     }
-    let above = first_above(n, demand);
-    if above < n * n {
-        return Verdict::Refused {
-            refusal: Refusal::DemandAbove { cell: above as u32 },
-        };
-    }
-    v
+    demand_above(n, demand)
 }
 
-// The slack of each line, rows first, to a table of 2N cells. Refused, in this order: N (1), L (2), a short demand (4), a short table (5),
-// a demand above 65,535 (6); then nothing is written.
+// The slack of each line, rows first, to a table of 2N cells. A refusal, in the order of `slacksNotice`, writes nothing.
 pub fn slacks(nodes: u32, slots: u32, demand: &[u32], table: &mut [i32]) -> Verdict
     ensures { λ v. ⌜ SlacksResult nodes slots (now (demand .entry)) (now (table .entry)) (now (table .exit)) v ⌝ }
 {

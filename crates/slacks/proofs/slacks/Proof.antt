@@ -8,7 +8,8 @@ use borrow.Author.Needs.{needs}
 use Rattle.sums.specs.Tables.{tab, written}
 use Rattle.star.specs.Lines.{slack}
 use Rattle.star.proofs.LineLaws.{whole-frame, whole-frame-fits}
-use Rattle.slacks.proofs.SlackLaws.{slacks-refused, slacks-fits, slacks-done}
+use Rattle.star.proofs.RefusalLaws.{promise-refused, promise-done}
+use Rattle.slacks.proofs.SlackLaws.{slacks-notice, slacks-fits}
 use Rattle.slacks.proofs.slacks.Statement.{statement}
 use Rattle.slacks.proofs.slacks.Tie as tie
 
@@ -22,25 +23,30 @@ enum-told-2 : tie.Need-enum-told-2
 enum-told-2 c = search needs
 
 returns : tie.Need-returns
-returns c = let a = c .before .before .before .before .args in slacks-refused (a .nodes) (a .slots) (a .demand .now) (a .table .now) (c .before .before .slacks-verdict .ensures) (c .enum-told2 .given .1)
+returns c = promise-refused (c .before .before .slacks-verdict .ensures) (slacks-notice _ _ _ _) _ (c .enum-told2 .given .1)
 
 mul-lines : tie.Need-mul-lines
 mul-lines c = search needs
 
 array-share-prefix-cap : tie.Need-array-share-prefix-cap
-array-share-prefix-cap c = let a = c .before .before .before .before .args in let g = slacks-fits (a .nodes) (a .slots) (a .demand .now) (a .table .now) (c .before .before .slacks-verdict .ensures) (c .enum-told .given .1) in omega (arith, g .sizes .nodes)
+array-share-prefix-cap c = let g = slacks-fits _ _ _ _ (sym (c .before .before .slacks-verdict .ensures) ∙ c .enum-told .given .1) in omega (arith, g .sizes .nodes)
 
 slice-aggregate-write-slacks : tie.Need-slice-aggregate-write-slacks
-slice-aggregate-write-slacks c = let a = c .before .before .before .before .before .args in let g = slacks-fits (a .nodes) (a .slots) (a .demand .now) (a .table .now) (c .before .before .before .slacks-verdict .ensures) (c .before .enum-told .given .1) in sym (length-take-le _ _ (omega (arith, length-replicate 128 (a .slots), g .sizes .nodes)))
+slice-aggregate-write-slacks c = let g = slacks-fits _ _ _ _ (sym (c .before .before .before .slacks-verdict .ensures) ∙ c .before .enum-told .given .1) in sym (length-take-le _ _ (omega (arith, length-replicate 128 (c .before .before .before .before .before .args .slots), g .sizes .nodes)))
 
 write-slacks-requires : tie.Need-write-slacks-requires
-write-slacks-requires c κs = let a = c .before .before .before .before .before .before .args in let g = slacks-fits (a .nodes) (a .slots) (a .demand .now) (a .table .now) (c .before .before .before .before .slacks-verdict .ensures) (c .before .before .enum-told .given .1) in ((g .demand, g .within), (rw (whole-frame (a .nodes) (a .slots) (g .sizes .nodes)) (whole-frame-fits _ _ (g .sizes .slots)), g .lines))
+write-slacks-requires c κs = let a = c .before .before .before .before .before .before .args in
+    let g = slacks-fits _ _ _ _ (sym (c .before .before .before .before .slacks-verdict .ensures) ∙ c .before .before .enum-told .given .1) in
+    ((g .demand, g .within), (rw (whole-frame (a .nodes) (a .slots) (g .sizes .nodes)) (whole-frame-fits _ _ (g .sizes .slots)), g .lines))
 
 same-length : tie.Need-same-length
 same-length c = search needs
 
 returns-2 : tie.Need-returns-2
-returns-2 c = let a = c .before .before .before .before .before .before .before .before .args in let g = slacks-fits (a .nodes) (a .slots) (a .demand .now) (a .table .now) (c .before .before .before .before .before .before .slacks-verdict .ensures) (c .before .before .before .before .enum-told .given .1) in slacks-done (a .nodes) (a .slots) (a .demand .now) (a .table .now) (c .before .before .before .before .before .before .slacks-verdict .ensures) (c .before .before .before .before .enum-told .given .1) (c .before .write-slacks .ensures ∙ ap (λ cap. written (2 * a .nodes) (tab (2 * a .nodes) (slack (a .nodes) cap (a .demand .now))) (a .table .now)) (whole-frame (a .nodes) (a .slots) (g .sizes .nodes)))
+returns-2 c = let a = c .before .before .before .before .before .before .before .before .args in
+    let g = slacks-fits _ _ _ _ (sym (c .before .before .before .before .before .before .slacks-verdict .ensures) ∙ c .before .before .before .before .enum-told .given .1) in
+    promise-done (c .before .before .before .before .before .before .slacks-verdict .ensures) (slacks-notice _ _ _ _) _ _ (c .before .before .before .before .enum-told .given .1)
+    (c .before .write-slacks .ensures ∙ ap (λ cap. written (2 * a .nodes) (tab (2 * a .nodes) (slack (a .nodes) cap (a .demand .now))) (a .table .now)) (whole-frame (a .nodes) (a .slots) (g .sizes .nodes)))
 
 pub slacks-spec : {M : Type 1} → statement M
 slacks-spec =
