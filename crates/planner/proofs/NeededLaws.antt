@@ -34,7 +34,7 @@ withdrawn-ext n cap d e a same w = record {
   lines = λ ℓ h. omega (arith, w .lines ℓ h, excess-ext n cap d e same ℓ h);
 }
 
-pub greatest-ext : (n : ℕ) (cap d e a : List ℕ) → ((i j : ℕ) → i < n → j < n → cell n d i j ≡ cell n e i j) → Greatest n cap d a → Greatest n cap e a
+greatest-ext : (n : ℕ) (cap d e a : List ℕ) → ((i j : ℕ) → i < n → j < n → cell n d i j ≡ cell n e i j) → Greatest n cap d a → Greatest n cap e a
 greatest-ext n cap d e a same g = record {
   withdrawn = withdrawn-ext n cap d e a same (g .withdrawn);
   most = λ b w. g .most b (withdrawn-ext n cap e d b (λ i j hi hj. sym (same i j hi hj)) w);

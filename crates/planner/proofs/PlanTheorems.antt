@@ -29,7 +29,7 @@ use Rattle.least.proofs.LeastIsLeast.{least-is-least}
 use Rattle.planner.specs.declared.answers.Report.{Report}
 use Rattle.planner.specs.declared.answers.Answer.{Answer}
 use Rattle.planner.specs.declared.answers.Answer.the-variants.{Planned, Refused}
-use Rattle.planner.specs.Plans.{verdictOf, reportOf, Lent, lent, planVerdict, lentShortVerdict, Plan, PlanDone, PlanResult, LentRoom}
+use Rattle.planner.specs.Plans.{verdictOf, reportOf, Lent, lent, planVerdict, Plan, PlanDone, PlanResult, LentRoom}
 use Rattle.planner.specs.Theorems.{SoundPlan, LeastPlan, SamePlans, SameResults, SameAsNeeded, WrongPlanners, PlanTheorems}
 use Rattle.planner.proofs.KeptLaws.{as-admissible}
 use Rattle.planner.proofs.PlanLaws.{total-below, plan-below, whole-room, lent-fits, plan-accepts, plan-room}
@@ -52,27 +52,28 @@ module _ {n l rule : ℕ} {cap d : List ℕ} {k : Lent} (known : rule ≤ 1) (p 
       sym (sum-add n (λ j. cell n d i j - count n l (k .schedule) i j) (λ j. cell n (k .kept) i j))
       ∙ sum-ext n _ _ (λ j hj. omega (arith, p .carried .exact i j hi hj, plan-below known p i j hi hj)))
 
-pub plan-sound : (n l rule : ℕ) (cap d : List ℕ) (k k' : Lent) (f : Report) → rule ≤ 1 → PlanDone n l rule cap d k k' f → SoundPlan n l cap d k' f
-plan-sound n l rule cap d k k' f known done =
-    let p = done .wrote .plan in
-    let g = done .figures in
-    record {
-      admissible = plan-admissible known p;
-      below = plan-below known p;
-      honest = omega (arith, plan-honest known p, g .refused-total);
-      totals = omega (arith, g .kept-total, g .refused-total, total-below n d (k' .kept) (plan-below known p));
-    }
+module _ {n l : ℕ} {cap d : List ℕ} {k k' : Lent} {f : Report} where
+  pub plan-sound : {rule : ℕ} → rule ≤ 1 → PlanDone n l rule cap d k k' f → SoundPlan n l cap d k' f
+  plan-sound known done =
+      let p = done .wrote .plan in
+      let g = done .figures in
+      record {
+        admissible = plan-admissible known p;
+        below = plan-below known p;
+        honest = omega (arith, plan-honest known p, g .refused-total);
+        totals = omega (arith, g .kept-total, g .refused-total, total-below n d (k' .kept) (plan-below known p));
+      }
 
-pub plan-least : (n l : ℕ) (cap d : List ℕ) (k k' : Lent) (f : Report) → PlanDone n l 1 cap d k k' f → LeastPlan n l cap d k' f
-plan-least n l cap d k k' f done =
-    let p = done .wrote .plan in
-    let g = p .least refl in
-    let refuses = done .figures .refused-total in
-    let follows = total-ext n (k' .kept) (keptFrom n cap d (k' .withdrawn)) (take-cell n (k' .kept) (keptFrom n cap d (k' .withdrawn)) (g .1)) in
-    record {
-      smallest = λ s free fits. omega (arith, refuses, follows, least-is-least (g .0) l s fits);
-      by-excess = omega (arith, refuses, follows, refused-total (g .0), total-below n d (k' .kept) (plan-below (omega arith) p));
-    }
+  pub plan-least : PlanDone n l 1 cap d k k' f → LeastPlan n l cap d k' f
+  plan-least done =
+      let p = done .wrote .plan in
+      let g = p .least refl in
+      let refuses = done .figures .refused-total in
+      let follows = total-ext n (k' .kept) (keptFrom n cap d (k' .withdrawn)) (take-cell n (k' .kept) (keptFrom n cap d (k' .withdrawn)) (g .1)) in
+      record {
+        smallest = λ s free fits. omega (arith, refuses, follows, least-is-least (g .0) l s fits);
+        by-excess = omega (arith, refuses, follows, refused-total (g .0), total-below n d (k' .kept) (plan-below (omega arith) p));
+      }
 
 -- ---- two plans of demands that agree at each pair
 module _ {n l rule : ℕ} {cap d e : List ℕ} {k₁ k₂ : Lent} (same : (i j : ℕ) → i < n → j < n → cell n d i j ≡ cell n e i j) (p : Plan n l rule cap d k₁) (q : Plan n l rule cap e k₂) where
@@ -88,9 +89,9 @@ module _ {n l rule : ℕ} {cap d e : List ℕ} {k₁ k₂ : Lent} (same : (i j :
       (λ z. total-ext n (k₁ .kept) (k₂ .kept) (first-cells n (k₁ .kept) (k₂ .kept) (fair-same z .0)))
       (λ ne. let u : rule ≡ 1 = omega arith in least-total same (rw u at p) (rw u at q))
 
-pub plan-same : (n l rule : ℕ) (cap d e : List ℕ) (k k₁ x k₂ : Lent) (f₁ f₂ : Report) → rule ≤ 1 → ((i j : ℕ) → i < n → j < n → cell n d i j ≡ cell n e i j) →
+pub plan-same : {n l rule : ℕ} {cap d e : List ℕ} {k k₁ x k₂ : Lent} {f₁ f₂ : Report} → rule ≤ 1 → ((i j : ℕ) → i < n → j < n → cell n d i j ≡ cell n e i j) →
     PlanDone n l rule cap d k k₁ f₁ → PlanDone n l rule cap e x k₂ f₂ → SamePlans n rule k₁ k₂ f₁ f₂
-plan-same n l rule cap d e k k₁ x k₂ f₁ f₂ known same one other =
+plan-same {n} {d = d} {e = e} known same one other =
     let p = one .wrote .plan in
     let q = other .wrote .plan in
     let totals = kept-same same p q known in
@@ -102,40 +103,44 @@ plan-same n l rule cap d e k k₁ x k₂ f₁ f₂ known same one other =
     }
 
 -- ---- one result
-pub plan-accepted : (n l rule : ℕ) (d : List ℕ) (k k' : Lent) (r : Answer) → PlanResult n l rule d k k' r → verdictOf r ≡ verdict.Accepted → SoundPlan n l (wholeFrame n l) d k' (reportOf r)
-plan-accepted n l rule d k k' r result ok = plan-sound n l rule (wholeFrame n l) d k k' (reportOf r) (plan-room n l rule d k (sym (result .answer) ∙ ok) .known-rule) (result .accepted ok)
+-- an accepted call has passed the check of its rule
+known-rule : {n l rule : ℕ} {d : List ℕ} {k k' : Lent} (r : Answer) → PlanResult n l rule d k k' r → verdictOf r ≡ verdict.Accepted → rule ≤ 1
+known-rule {n} {l} {rule} {d} {k} r result ok = plan-room n l rule d k (sym (result .answer) ∙ ok) .known-rule
 
-pub plan-smallest : (n l : ℕ) (d : List ℕ) (k k' : Lent) (r : Answer) → PlanResult n l 1 d k k' r → verdictOf r ≡ verdict.Accepted → (s : List ℕ) → ConflictFree n l s →
-    reportOf r .refused ≤ refusedBy n l d s
-plan-smallest n l d k k' r result ok s free = plan-least n l (wholeFrame n l) d k k' (reportOf r) (result .accepted ok) .smallest s free (counts-admissible free)
+pub plan-accepted : {n l rule : ℕ} {d : List ℕ} {k k' : Lent} (r : Answer) → PlanResult n l rule d k k' r → verdictOf r ≡ verdict.Accepted → SoundPlan n l (wholeFrame n l) d k' (reportOf r)
+plan-accepted r result ok = plan-sound (known-rule r result ok) (result .accepted ok)
 
-pub plan-lengths : (n l rule : ℕ) (d : List ℕ) (k k' : Lent) (r : Answer) → PlanResult n l rule d k k' r →
+-- each conflict-free schedule respects the whole frame
+pub plan-smallest : {n l : ℕ} {d : List ℕ} {k k' : Lent} (r : Answer) → PlanResult n l 1 d k k' r → verdictOf r ≡ verdict.Accepted →
+    (s : List ℕ) → ConflictFree n l s → reportOf r .refused ≤ refusedBy n l d s
+plan-smallest r result ok s free = plan-least (result .accepted ok) .smallest s free (counts-admissible free)
+
+pub plan-lengths : {n l rule : ℕ} {d : List ℕ} {k k' : Lent} (r : Answer) → PlanResult n l rule d k k' r →
     (length (k' .kept) ≡ length (k .kept)) × (length (k' .withdrawn) ≡ length (k .withdrawn)) × (length (k' .schedule) ≡ length (k .schedule))
-plan-lengths n l rule d k k' (Planned f) result = let w = result .accepted refl .wrote in (w .kept-length, w .withdrawn-length, w .schedule-length)
-plan-lengths n l rule d k k' (Refused x) result = let same = result .refused x refl in (ap (λ t. length (t .kept)) same, ap (λ t. length (t .withdrawn)) same, ap (λ t. length (t .schedule)) same)
+plan-lengths (Planned f) result = let w = result .accepted refl .wrote in (w .kept-length, w .withdrawn-length, w .schedule-length)
+plan-lengths (Refused x) result = let same = result .refused x refl in (ap (λ t. length (t .kept)) same, ap (λ t. length (t .withdrawn)) same, ap (λ t. length (t .schedule)) same)
 
--- ---- two results with the same verdict, on demands that agree at each pair
-module _ (n l rule : ℕ) (d e : List ℕ) (k k₁ x k₂ : Lent) (same : (i j : ℕ) → i < n → j < n → cell n d i j ≡ cell n e i j) where
-  same-plans : (r₁ r₂ : Answer) → PlanResult n l rule d k k₁ r₁ → PlanResult n l rule e x k₂ r₂ → verdictOf r₁ ≡ verdictOf r₂ → verdictOf r₁ ≡ verdict.Accepted → SamePlans n rule k₁ k₂ (reportOf r₁) (reportOf r₂)
-  same-plans r₁ r₂ x₁ x₂ verdicts ok =
-      plan-same n l rule (wholeFrame n l) d e k k₁ x k₂ (reportOf r₁) (reportOf r₂) (plan-room n l rule d k (sym (x₁ .answer) ∙ ok) .known-rule) same (x₁ .accepted ok) (x₂ .accepted (sym verdicts ∙ ok))
-
-  agreed : (r₁ r₂ : Answer) → PlanResult n l rule d k k₁ r₁ → PlanResult n l rule e x k₂ r₂ → verdictOf r₁ ≡ verdictOf r₂ → SameAsNeeded n rule k₁ k₂ r₁ r₂
-  agreed (Planned f) r₂ x₁ x₂ verdicts = let p = same-plans (Planned f) r₂ x₁ x₂ verdicts in
-      record { verdicts = verdicts; kept-totals = p refl .kept-totals; refused-totals = p refl .refused-totals; plans = p }
-  agreed (Refused y) (Planned f) x₁ x₂ verdicts = absurd (never verdicts)
-  agreed (Refused y) (Refused z) x₁ x₂ verdicts = record { verdicts = verdicts; kept-totals = refl; refused-totals = refl; plans = λ ok. absurd (never ok) }
+-- ---- two results
+-- with the same verdict, on demands that agree at each pair
+agreed : {n l rule : ℕ} {d e : List ℕ} {k k₁ x k₂ : Lent} (r₁ r₂ : Answer) → PlanResult n l rule d k k₁ r₁ → PlanResult n l rule e x k₂ r₂ →
+    ((i j : ℕ) → i < n → j < n → cell n d i j ≡ cell n e i j) → verdictOf r₁ ≡ verdictOf r₂ → SameAsNeeded n rule k₁ k₂ r₁ r₂
+agreed (Planned f) (Planned g) x₁ x₂ same verdicts =
+    let plans = plan-same (known-rule (Planned f) x₁ refl) same (x₁ .accepted refl) (x₂ .accepted refl) in
+    record { verdicts = verdicts; kept-totals = plans .kept-totals; refused-totals = plans .refused-totals; plans = λ _. plans }
+agreed (Planned f) (Refused z) x₁ x₂ same verdicts = absurd (never (sym verdicts))
+agreed (Refused y) (Planned g) x₁ x₂ same verdicts = absurd (never verdicts)
+agreed (Refused y) (Refused z) x₁ x₂ same verdicts = record { verdicts = verdicts; kept-totals = refl; refused-totals = refl; plans = λ ok. absurd (never ok) }
 
 -- lists that agree in their first cells and in the further ones are one
 glue : (m : ℕ) (x y : List ℕ) → take m x ≡ take m y → drop m x ≡ drop m y → x ≡ y
 glue m x y e f = sym (take-append-drop m x) ∙ ap₂ _++_ e f ∙ take-append-drop m y
 
-pub plan-unique : (n l rule : ℕ) (d : List ℕ) (k k₁ k₂ : Lent) (r₁ r₂ : Answer) → PlanResult n l rule d k k₁ r₁ → PlanResult n l rule d k k₂ r₂ → SameResults rule k₁ k₂ r₁ r₂
-plan-unique n l rule d k k₁ k₂ r₁ r₂ x₁ x₂ =
+pub plan-unique : {n l rule : ℕ} {d : List ℕ} {k k₁ k₂ : Lent} (r₁ r₂ : Answer) → PlanResult n l rule d k k₁ r₁ → PlanResult n l rule d k k₂ r₂ → SameResults rule k₁ k₂ r₁ r₂
+plan-unique {n} {k₁ = k₁} {k₂ = k₂} r₁ r₂ x₁ x₂ =
     let verdicts = x₁ .answer ∙ sym (x₂ .answer) in
-    let g = agreed n l rule d d k k₁ k k₂ (λ i j hi hj. refl) r₁ r₂ x₁ x₂ verdicts in
-    let kept : verdictOf r₁ ≡ verdict.Accepted → drop (n * n) (k₁ .kept) ≡ drop (n * n) (k₂ .kept)
-    = λ ok. x₁ .accepted ok .wrote .kept-rest ∙ sym (x₂ .accepted (sym verdicts ∙ ok) .wrote .kept-rest) in
+    let g = agreed r₁ r₂ x₁ x₂ (λ i j hi hj. refl) verdicts in
+    let kept : verdictOf r₁ ≡ verdict.Accepted → take (n * n) (k₁ .kept) ≡ take (n * n) (k₂ .kept) → k₁ .kept ≡ k₂ .kept
+    = λ ok first. glue (n * n) (k₁ .kept) (k₂ .kept) first (x₁ .accepted ok .wrote .kept-rest ∙ sym (x₂ .accepted (sym verdicts ∙ ok) .wrote .kept-rest)) in
     record {
       verdicts = verdicts;
       kept-totals = g .kept-totals;
@@ -143,10 +148,10 @@ plan-unique n l rule d k k₁ k₂ r₁ r₂ x₁ x₂ =
       refused-cells = λ q e. x₁ .refused q e ∙ sym (x₂ .refused q (sym verdicts ∙ e));
       fair-cells = λ ok z.
           let first = g .plans ok .fair-cells z in (
-            glue (n * n) (k₁ .kept) (k₂ .kept) (first .0) (kept ok),
+            kept ok (first .0),
             glue (n * n) (k₁ .withdrawn) (k₂ .withdrawn) (first .1) (x₁ .accepted ok .wrote .withdrawn-rest ∙ sym (x₂ .accepted (sym verdicts ∙ ok) .wrote .withdrawn-rest)),
           );
-      least-cells = λ ok u same. glue (n * n) (k₁ .kept) (k₂ .kept) (g .plans ok .least-cells u (ap (take (n * n)) same)) (kept ok);
+      least-cells = λ ok u same. kept ok (g .plans ok .least-cells u (ap (take (n * n)) same));
     }
 
 alike-verdict : (n l rule : ℕ) (d e : List ℕ) (k x : Lent) → Alike (n * n) d e → LentRoom n l k → LentRoom n l x →
@@ -155,10 +160,10 @@ unfolding planVerdict demandShortVerdict demandAboveVerdict
 alike-verdict n l rule d e k x same one other =
     rw (both-long (same .first-room) (same .second-room), ← (lent-fits one), ← (lent-fits other), alike-above n same) refl
 
-pub plan-needed : (n l rule : ℕ) (d e : List ℕ) (k k₁ x k₂ : Lent) (r₁ r₂ : Answer) → PlanResult n l rule d k k₁ r₁ → PlanResult n l rule e x k₂ r₂ →
+pub plan-needed : {n l rule : ℕ} {d e : List ℕ} {k k₁ x k₂ : Lent} (r₁ r₂ : Answer) → PlanResult n l rule d k k₁ r₁ → PlanResult n l rule e x k₂ r₂ →
     Alike (n * n) d e → LentRoom n l k → LentRoom n l x → SameAsNeeded n rule k₁ k₂ r₁ r₂
-plan-needed n l rule d e k k₁ x k₂ r₁ r₂ x₁ x₂ same one other =
-    agreed n l rule d e k k₁ x k₂ (alike-cell n same) r₁ r₂ x₁ x₂ (x₁ .answer ∙ alike-verdict n l rule d e k x same one other ∙ sym (x₂ .answer))
+plan-needed {n} {l} {rule} {d} {e} {k} {x = x} r₁ r₂ x₁ x₂ same one other =
+    agreed r₁ r₂ x₁ x₂ (alike-cell n same) (x₁ .answer ∙ alike-verdict n l rule d e k x same one other ∙ sym (x₂ .answer))
 
 -- ---- the wrong planners
 -- one slot for one node: a demand of at most 1 is accepted ..
@@ -206,8 +211,8 @@ one-kept rule k k' r known result ok =
     let least : PlanResult 1 1 1 (1 ∷ []) k k' r = rw e at result in
     omega (
       arith,
-      plan-accepted 1 1 1 (1 ∷ []) k k' r least ok .totals,
-      plan-smallest 1 1 (1 ∷ []) k k' r least ok (0 ∷ []) one-slot,
+      plan-accepted r least ok .totals,
+      plan-smallest r least ok (0 ∷ []) one-slot,
       one-served,
       least .accepted ok .figures .kept-total,
       one-cell (k' .kept),
@@ -240,7 +245,7 @@ wrong-planners = record {
       omega (
         arith,
         one-kept rule k k' r known one ok,
-        plan-accepted 1 1 rule (0 ∷ []) k k' r none ok .below 0 0 (omega arith) (omega arith),
+        plan-accepted r none ok .below 0 0 (omega arith) (omega arith),
         never-asked,
       );
 }
@@ -248,14 +253,14 @@ wrong-planners = record {
 -- all of it
 pub plan-theorems : PlanTheorems
 plan-theorems = record {
-  sound = plan-sound;
-  least = plan-least;
-  same = plan-same;
+  sound = λ n l rule cap d k k' f. plan-sound;
+  least = λ n l cap d k k' f. plan-least;
+  same = λ n l rule cap d e k k₁ x k₂ f₁ f₂. plan-same;
   accepts = λ n l rule d k k' r result sizes known demand tables most. result .answer ∙ sym (plan-accepts (whole-room sizes known demand (record { most = most }) tables));
-  accepted = plan-accepted;
-  smallest = plan-smallest;
-  unique = plan-unique;
-  needed = plan-needed;
-  lengths = plan-lengths;
+  accepted = λ n l rule d k k'. plan-accepted;
+  smallest = λ n l d k k'. plan-smallest;
+  unique = λ n l rule d k k₁ k₂. plan-unique;
+  needed = λ n l rule d e k k₁ x k₂. plan-needed;
+  lengths = λ n l rule d k k'. plan-lengths;
   wrong = wrong-planners;
 }

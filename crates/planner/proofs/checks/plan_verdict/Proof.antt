@@ -32,7 +32,7 @@ unfolding planVerdict
 returns-2 c = then-goes (c .before .before .before .before .before .sizes .ensures) (c .before .before .before .enum-told .given .1) (then-stops _ (c .before .before .known-rule .ensures) (c .enum-told4 .given .1))
 
 demand-short-requires : tie.Need-demand-short-requires
-demand-short-requires c κs = sized (c .before .before .before .before .before .before .before .args .nodes) (c .before .before .before .before .before .before .before .args .slots) (sym (c .before .before .before .before .before .sizes .ensures) ∙ c .before .before .before .enum-told .given .1) .nodes
+demand-short-requires c κs = sized _ _ (sym (c .before .before .before .before .before .sizes .ensures) ∙ c .before .before .before .enum-told .given .1) .nodes
 
 enum-told-5 : tie.Need-enum-told-5
 enum-told-5 c = c .match3 .keys1
@@ -45,7 +45,7 @@ unfolding planVerdict
 returns-3 c = then-goes (c .before .before .before .before .before .before .before .before .sizes .ensures) (c .before .before .before .before .before .before .enum-told .given .1) (then-goes (c .before .before .before .before .before .known-rule .ensures) (c .before .before .before .enum-told3 .given .1) (then-stops _ (c .before .before .demand-short .ensures) (c .enum-told6 .given .1)))
 
 lent-short-requires : tie.Need-lent-short-requires
-lent-short-requires c κs = sized (c .before .before .before .before .before .before .before .before .before .before .args .nodes) (c .before .before .before .before .before .before .before .before .before .before .args .slots) (sym (c .before .before .before .before .before .before .before .before .sizes .ensures) ∙ c .before .before .before .before .before .before .enum-told .given .1)
+lent-short-requires c κs = sized _ _ (sym (c .before .before .before .before .before .before .before .before .sizes .ensures) ∙ c .before .before .before .before .before .before .enum-told .given .1)
 
 enum-told-7 : tie.Need-enum-told-7
 enum-told-7 c = c .match4 .keys1
@@ -58,7 +58,7 @@ unfolding planVerdict
 returns-4 c = then-goes (c .before .before .before .before .before .before .before .before .before .before .before .sizes .ensures) (c .before .before .before .before .before .before .before .before .before .enum-told .given .1) (then-goes (c .before .before .before .before .before .before .before .before .known-rule .ensures) (c .before .before .before .before .before .before .enum-told3 .given .1) (then-goes (c .before .before .before .before .before .demand-short .ensures) (c .before .before .before .enum-told5 .given .1) (then-stops _ (c .before .before .lent-short .ensures) (c .enum-told8 .given .1))))
 
 demand-above-requires : tie.Need-demand-above-requires
-demand-above-requires c κs = record { nodes = sized (c .before .before .before .before .before .before .before .before .before .before .before .before .before .args .nodes) (c .before .before .before .before .before .before .before .before .before .before .before .before .before .args .slots) (sym (c .before .before .before .before .before .before .before .before .before .before .before .sizes .ensures) ∙ c .before .before .before .before .before .before .before .before .before .enum-told .given .1) .nodes; cells = long-demand _ _ (sym (c .before .before .before .before .before .demand-short .ensures) ∙ c .before .before .before .enum-told5 .given .1) }
+demand-above-requires c κs = record { nodes = sized _ _ (sym (c .before .before .before .before .before .before .before .before .before .before .before .sizes .ensures) ∙ c .before .before .before .before .before .before .before .before .before .enum-told .given .1) .nodes; cells = long-demand _ _ (sym (c .before .before .before .before .before .demand-short .ensures) ∙ c .before .before .before .enum-told5 .given .1) }
 
 returns-5 : tie.Need-returns-5
 unfolding planVerdict
