@@ -4,13 +4,13 @@ use mathlib.Core.Path.{_∙_}
 use native.Mathlib.Omega.{arith}
 use lib.ListN.{length, length-append}
 use Rattle.pieces.proofs.PieceLaws.{appended-more}
-use Rattle.matrix_text.specs.Text.{planText, room}
+use Rattle.matrix_text.specs.Text.{planText, longestText}
 use Rattle.matrix_text.proofs.TextLaws.{plan-fits}
 use Rattle.matrix_text.proofs.text.put_plan.Statement.{statement}
 use Rattle.matrix_text.proofs.text.put_plan.Tie as tie
 
 -- the text fits
-fits : (c : tie.After-shared-slice-known) → length (planText (c .before .before .args .nodes) (c .before .before .args .slots) (c .before .before .args .rule) (c .before .before .args .keeps) (c .before .before .args .refuses) (c .before .before .args .kept .now)) ≤ room
+fits : (c : tie.After-shared-slice-known) → length (planText (c .before .before .args .nodes) (c .before .before .args .slots) (c .before .before .args .rule) (c .before .before .args .keeps) (c .before .before .args .refuses) (c .before .before .args .kept .now)) ≤ longestText
 fits c = plan-fits (c .before .before .args .nodes) (c .before .before .args .kept .now) (λ p. omega (arith, c .shared-slice-known .given p)) (c .before .before .args .slots) (c .before .before .args .rule) (c .before .before .args .keeps) (c .before .before .args .refuses) (omega arith) (omega arith) (omega arith) (omega arith) (omega arith)
 
 put-head-requires : tie.Need-put-head-requires
