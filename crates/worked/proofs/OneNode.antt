@@ -24,7 +24,7 @@ use Rattle.least.specs.Least.{Greatest, keptFrom, keptCell, left, longer, share
 use Rattle.planner.specs.declared.answers.Report.{Report}
 use Rattle.planner.specs.declared.answers.Answer.{Answer}
 use Rattle.planner.specs.declared.answers.Answer.the-variants.{Planned}
-use Rattle.planner.specs.Plans.{verdictOf, Lent, lent, lentShortVerdict, LentRoom}
+use Rattle.planner.specs.Plans.{Lent, lent, lentShortVerdict, LentRoom}
 use Rattle.books.specs.Books.{booksAgree, firstDisagreeing}
 use Rattle.books.specs.Queues.{zeroed, more, overflowed, queued, served}
 use Rattle.calls.specs.declared.record.Run.{Run}

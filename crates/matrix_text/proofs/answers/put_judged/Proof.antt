@@ -1,11 +1,11 @@
 -- `put_judged` prints what the order of document 01 asks for: fewer than three numbers are bad input, and else it is what is printed of plan's answer, since the table stores all demands where their count is right. Assumes nothing.
-use lib.ListN.{getD, length-replicate}
 use Prim.Native.Nat.{ℕ}
 use mathlib.Core.Path.{refl}
+use lib.ListN.{getD, length-replicate}
+use borrow.Author.Needs.{needs}
 use Rattle.pieces.specs.Text.{badInput}
 use Rattle.matrix_text.specs.Writes.{answerText}
 use Rattle.matrix_text.proofs.OutcomeLaws.{few-print, printable, stored-prints}
-use borrow.Author.Needs.{needs}
 use Rattle.matrix_text.proofs.answers.put_judged.Statement.{statement}
 use Rattle.matrix_text.proofs.answers.put_judged.Tie as tie
 

@@ -1,7 +1,7 @@
 -- `put_plan` appends a plan, line by line; it fits, since there are at most 64 lines of 64 numbers with at most ten digits. Assumes nothing.
 use Prim.Native.Nat.{_≤_}
-use mathlib.Core.Path.{_∙_}
 use native.Mathlib.Omega.{arith}
+use mathlib.Core.Path.{_∙_}
 use lib.ListN.{length, length-append}
 use Rattle.pieces.proofs.PieceLaws.{appended-more}
 use Rattle.matrix_text.specs.Text.{planText, longestText}
