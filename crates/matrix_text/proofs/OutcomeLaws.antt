@@ -10,21 +10,23 @@ use mathlib.Core.Option.{none}
 use lib.Dec.{leb, eqb}
 use lib.ListN.{length, getD, take, drop, length-drop}
 use lib.Seq.{getD-take, take-all, take-add, drop-at, length-take-le}
-use borrow.Author.Tests.{eqb-true, lt-ltb, le-ltb, le-leb, lt-leb}
+use borrow.Author.Tests.{eqb-true, ltb-false, lt-ltb, le-ltb, le-leb, lt-leb}
 use Rattle.sums.proofs.Cases.{by-test}
 use Rattle.sums.proofs.Tables.{mul-small}
 use Rattle.star.specs.declared.refusals.Refusal.{Refusal}
 use Rattle.star.specs.declared.refusals.Refusal.the-variants.{Nodes, Slots, Rule, DemandShort, TableShort, DemandAbove}
 use Rattle.star.specs.declared.refusals.Verdict.the-variants as verdict
-use Rattle.star.specs.Refusals.{refuse, nodesOut, slotsOut, ruleOut, short, someCell, firstAbove, refusalNumber, refusalPlace}
+use Rattle.star.specs.Refusals.{refuse, then, nodesOut, slotsOut, ruleOut, someCell, firstAbove, refusalNumber, refusalPlace}
 use Rattle.star.specs.Lines.{total, wholeFrame}
-use Rattle.star.proofs.RefusalLaws.{fires, passes, neither, in-its-range}
+use Rattle.star.specs.Checks.{sizesVerdict, ruleVerdict, demandShortVerdict, demandAboveVerdict, Sizes}
+use Rattle.star.proofs.RefusalLaws.{fires, passes, never, then-stops, then-goes, in-its-range, sizes-fit, rule-fits, demand-fits}
 use Rattle.pieces.specs.Pieces.{Appended, Answered}
 use Rattle.pieces.specs.Text.{badInput, refusalText}
 use Rattle.pieces.proofs.PieceLaws.{answered-text}
 use Rattle.planner.specs.declared.answers.Answer.{Answer}
 use Rattle.planner.specs.declared.answers.Answer.the-variants.{Planned, Refused}
-use Rattle.planner.specs.Plans.{verdictOf, keptTotal, refusedTotal, changes, planVerdict, Plan, PlanResult}
+use Rattle.planner.specs.Plans.{verdictOf, reportOf, Lent, lent, lentShortVerdict, planVerdict, Plan, PlanResult, LentRoom}
+use Rattle.planner.proofs.PlanLaws.{lent-fits, plan-room}
 use Rattle.number_list.specs.Input.{listOf}
 use Rattle.number_list.specs.Reads.{Stored, Holds}
 use Rattle.matrix_text.specs.Text.{planText}
@@ -44,12 +46,12 @@ left x e h = rw e h
 
 -- ---- answers
 is-refused : (r : Answer) (x : Refusal) → verdictOf r ≡ verdict.Refused x → r ≡ Refused x
-is-refused (Planned k f c) x e = absurd (let z : _≡_ {A = ℕ} 0 1 = cc in omega arith)
+is-refused (Planned f) x e = absurd (never (sym e))
 is-refused (Refused y) x e = cc
 
-is-planned : (r : Answer) → verdictOf r ≡ verdict.Accepted → r ≡ Planned (keptTotal r) (refusedTotal r) (changes r)
-is-planned (Planned k f c) e = refl
-is-planned (Refused y) e = absurd (let z : _≡_ {A = ℕ} 0 1 = cc in omega arith)
+is-planned : (r : Answer) → verdictOf r ≡ verdict.Accepted → r ≡ Planned (reportOf r)
+is-planned (Planned f) e = refl
+is-planned (Refused y) e = absurd (never e)
 
 -- ---- a refusal and the count
 pub refused-early : (whole : Bool) (x : Refusal) → refusalNumber x ≤ 3 → refusedText whole x ≡ refusalText (refusalNumber x) (refusalPlace x)
@@ -68,9 +70,7 @@ refused-late whole x high e = rw (lt-leb (refusalNumber x) 3 high, e, refusedTex
 prints-bad : (o : Outcome) (text : List ℕ) → o ≡ BadInput → text ≡ badInput → Prints o text
 unfolding outcomeText
 prints-bad o text e t = record {
-  kept = [];
-  withdrawn = [];
-  schedule = [];
+  plan = lent [] [] [];
   planned = λ n l rule d p. absurd (let z : _≡_ {A = ℕ} 0 1 = cc in omega arith);
   printed = t ∙ ap (λ o. outcomeText o []) (sym e);
 }
@@ -78,113 +78,123 @@ prints-bad o text e t = record {
 prints-refusal : (o : Outcome) (text : List ℕ) (x : Refusal) → o ≡ Refuses x → text ≡ refusalText (refusalNumber x) (refusalPlace x) → Prints o text
 unfolding outcomeText
 prints-refusal o text x e t = record {
-  kept = [];
-  withdrawn = [];
-  schedule = [];
+  plan = lent [] [] [];
   planned = λ n l rule d p. absurd (let z : _≡_ {A = ℕ} 0 1 = cc in omega arith);
   printed = t ∙ ap (λ o. outcomeText o []) (sym e);
 }
 
-same-plan : {n l rule m k s : ℕ} {d e : List ℕ} (kept withdrawn schedule : List ℕ) → Plans n l rule d ≡ Plans m k s e → Plan n l rule (wholeFrame n l) d kept withdrawn schedule → Plan m k s (wholeFrame m k) e kept withdrawn schedule
-same-plan {n} {l} {rule} {m} {k} {s} {d} {e} kept withdrawn schedule p plan =
+same-plan : {n l rule m k s : ℕ} {d e : List ℕ} (t : Lent) → Plans n l rule d ≡ Plans m k s e → Plan n l rule (wholeFrame n l) d t → Plan m k s (wholeFrame m k) e t
+same-plan {n} {l} {rule} {m} {k} {s} {d} {e} t p plan =
     let a : n ≡ m = cc in
     let b : l ≡ k = cc in
     let c : rule ≡ s = cc in
     let f : d ≡ e = cc in
     rw (← a, ← b, ← c, ← f) plan
 
-prints-plan : (o : Outcome) (text : List ℕ) (n l rule : ℕ) (d kept withdrawn schedule : List ℕ) → o ≡ Plans n l rule d → Plan n l rule (wholeFrame n l) d kept withdrawn schedule → text ≡ planText n l rule (total n kept) (total n d - total n kept) kept → Prints o text
+prints-plan : (o : Outcome) (text : List ℕ) (n l rule : ℕ) (d : List ℕ) (k : Lent) → o ≡ Plans n l rule d → Plan n l rule (wholeFrame n l) d k →
+    text ≡ planText n l rule (total n (k .kept)) (total n d - total n (k .kept)) (k .kept) → Prints o text
 unfolding outcomeText
-prints-plan o text n l rule d kept withdrawn schedule e plan t = record {
-  kept = kept;
-  withdrawn = withdrawn;
-  schedule = schedule;
-  planned = λ m k s f p. same-plan kept withdrawn schedule (sym e ∙ p) plan;
-  printed = t ∙ ap (λ o. outcomeText o kept) (sym e);
+prints-plan o text n l rule d k e plan t = record {
+  plan = k;
+  planned = λ m x y f p. same-plan k (sym e ∙ p) plan;
+  printed = t ∙ ap (λ o. outcomeText o (k .kept)) (sym e);
 }
 
--- ---- a right count of demands: the demand lent is the input's
-module _ (n l rule : ℕ) (d kept withdrawn schedule kept' withdrawn' schedule' : List ℕ) (r : Answer) (lk : length kept ≡ 4096) (lw : length withdrawn ≡ 4096) (ls : length schedule ≡ 65536) (p : PlanResult n l rule d kept withdrawn schedule kept' withdrawn' schedule' r) where
-  module _ (e1 : nodesOut n ≡ false) (e2 : slotsOut l ≡ false) (e3 : ruleOut rule ≡ false) (whole : eqb (length d) (n * n) ≡ true) where
-    -- no table is short
-    tables : (short (length kept) (n * n) || short (length withdrawn) (n * n) || short (length schedule) (l * n)) ≡ false
-    tables =
-        let cells = mul-small n n (in-its-range 1 64 n e1 .1) (in-its-range 1 64 n e1 .1) in
-        let bytes : l * n ≤ 1024 * 64 = mul-le-mul (in-its-range 1 1024 l e2 .1) (in-its-range 1 64 n e1 .1) in
-        neither (short (length kept) (n * n) || short (length withdrawn) (n * n)) (short (length schedule) (l * n))
-        (neither (short (length kept) (n * n)) (short (length withdrawn) (n * n)) (le-ltb (length kept) (n * n) (omega arith)) (le-ltb (length withdrawn) (n * n) (omega arith)))
-        (le-ltb (length schedule) (l * n) (omega arith))
+-- ---- an accepted plan has a kept matrix
+pub printable : {n l rule : ℕ} {d : List ℕ} {k k' : Lent} (r : Answer) → PlanResult n l rule d k k' r → Printable n (k' .kept) r
+printable {n} {l} {rule} {d} {k} r p = record {
+  square = λ v.
+      let room = plan-room n l rule d k (sym (p .answer) ∙ v) in
+      record { nodes = room .sizes .nodes; cells = omega (arith, room .tables .kept, p .accepted v .wrote .kept-length) };
+}
 
-    decided : verdictOf r ≡ refuse (someCell (n * n) (firstAbove n d)) (DemandAbove (firstAbove n d)) verdict.Accepted
+-- ---- N and L that are not refused
+pub sizes : (n l : ℕ) → nodesOut n ≡ false → slotsOut l ≡ false → Sizes n l
+sizes n l e1 e2 =
+    let nodes = in-its-range 1 64 n e1 in
+    let slots = in-its-range 1 1024 l e2 in
+    record { some-nodes = nodes .0; nodes = nodes .1; some-slots = slots .0; slots = slots .1 }
+
+-- ---- the tables that a plan is lent, which the largest star fills
+module _ (n l rule : ℕ) (k : Lent) (lk : length (k .kept) ≡ 4096) (lw : length (k .withdrawn) ≡ 4096) (ls : length (k .schedule) ≡ 65536) where
+  tables : Sizes n l → LentRoom n l k
+  tables s =
+      let cells = mul-small n n (s .nodes) (s .nodes) in
+      let bytes : l * n ≤ 1024 * 64 = mul-le-mul (s .slots) (s .nodes) in
+      record { kept = omega arith; withdrawn = omega arith; schedule = omega arith }
+
+  -- ---- a right count of demands: the demand lent is the input's
+  module _ (k' : Lent) (r : Answer) (d : List ℕ) (p : PlanResult n l rule d k k' r) (e1 : nodesOut n ≡ false) (e2 : slotsOut l ≡ false) (e3 : ruleOut rule ≡ false) (whole : eqb (length d) (n * n) ≡ true) where
+    -- only 6 is left to be given
+    decided : verdictOf r ≡ demandAboveVerdict n d
     unfolding planVerdict
     decided =
         p .answer
-        ∙ sym (passes Nodes e1 (passes Slots e2 (passes Rule e3 (passes DemandShort (le-ltb (length d) (n * n) (omega (arith, eqb-true (length d) (n * n) whole))) (passes TableShort tables refl)))))
+        ∙ sym (then-goes (sizes-fit n l (sizes n l e1 e2)) refl
+        (then-goes (rule-fits rule (ltb-false 1 rule e3)) refl
+        (then-goes (demand-fits n (length d) (omega (arith, eqb-true (length d) (n * n) whole))) refl
+        (then-goes (lent-fits (tables (sizes n l e1 e2))) refl refl))))
 
     judged : (o : Outcome) → orElse (someCell (n * n) (firstAbove n d)) (Refuses (DemandAbove (firstAbove n d))) (Plans n l rule d) ≡ o → judge (n ∷ l ∷ rule ∷ d) ≡ o
     unfolding judge
     judged o h = left (Refuses Nodes) e1 (left (Refuses Slots) e2 (left (Refuses Rule) e3 (rw whole h)))
 
-    whole-refused : someCell (n * n) (firstAbove n d) ≡ true → Prints (judge (n ∷ l ∷ rule ∷ d)) (answerText true n l rule kept' r)
-    unfolding answerText refusedText
+    whole-refused : someCell (n * n) (firstAbove n d) ≡ true → Prints (judge (n ∷ l ∷ rule ∷ d)) (answerText true n l rule (k' .kept) r)
+    unfolding answerText refusedText demandAboveVerdict
     whole-refused e =
-        prints-refusal (judge (n ∷ l ∷ rule ∷ d)) (answerText true n l rule kept' r) (DemandAbove (firstAbove n d))
+        prints-refusal (judge (n ∷ l ∷ rule ∷ d)) (answerText true n l rule (k' .kept) r) (DemandAbove (firstAbove n d))
         (judged (Refuses (DemandAbove (firstAbove n d))) (taken (Refuses (DemandAbove (firstAbove n d))) (Plans n l rule d) e))
-        (ap (answerText true n l rule kept') (is-refused r (DemandAbove (firstAbove n d)) (decided ∙ sym (fires verdict.Accepted e))))
+        (ap (answerText true n l rule (k' .kept)) (is-refused r (DemandAbove (firstAbove n d)) (decided ∙ sym (fires verdict.Accepted e))))
 
-    whole-planned : someCell (n * n) (firstAbove n d) ≡ false → Prints (judge (n ∷ l ∷ rule ∷ d)) (answerText true n l rule kept' r)
-    unfolding answerText
+    whole-planned : someCell (n * n) (firstAbove n d) ≡ false → Prints (judge (n ∷ l ∷ rule ∷ d)) (answerText true n l rule (k' .kept) r)
+    unfolding answerText demandAboveVerdict
     whole-planned e =
         let v : verdictOf r ≡ verdict.Accepted = decided ∙ sym (passes (DemandAbove (firstAbove n d)) e refl) in
-        let w = p .accepted v in
-        prints-plan (judge (n ∷ l ∷ rule ∷ d)) (answerText true n l rule kept' r) n l rule d kept' withdrawn' schedule'
+        let done = p .accepted v in
+        prints-plan (judge (n ∷ l ∷ rule ∷ d)) (answerText true n l rule (k' .kept) r) n l rule d k'
         (judged (Plans n l rule d) (left (Refuses (DemandAbove (firstAbove n d))) e refl))
-        (w .plan)
-        (ap (answerText true n l rule kept') (is-planned r v) ∙ rw (w .kept-total, w .refused-total) refl)
+        (done .wrote .plan)
+        (ap (answerText true n l rule (k' .kept)) (is-planned r v) ∙ rw (done .figures .kept-total, done .figures .refused-total) refl)
 
-    whole-prints : Prints (judge (n ∷ l ∷ rule ∷ d)) (answerText true n l rule kept' r)
+    whole-prints : Prints (judge (n ∷ l ∷ rule ∷ d)) (answerText true n l rule (k' .kept) r)
     whole-prints = by-test (someCell (n * n) (firstAbove n d)) whole-refused whole-planned
 
--- ---- an accepted plan has a kept matrix
-pub printable : {n l rule : ℕ} {d kept withdrawn schedule kept' withdrawn' schedule' : List ℕ} {r : Answer} → PlanResult n l rule d kept withdrawn schedule kept' withdrawn' schedule' r → length kept' ≡ 4096 → Printable n kept' r
-unfolding planVerdict
-printable {n = n} p size = record {
-  square = λ v.
-      by-test (nodesOut n)
-      (λ e. absurd (let f : verdict.Refused Nodes ≡ verdict.Accepted = fires _ e ∙ sym (p .answer) ∙ v in let z : _≡_ {A = ℕ} 0 1 = cc in omega arith))
-      (λ e. record { nodes = in-its-range 1 64 n e .1; cells = omega (arith, mul-small n n (in-its-range 1 64 n e .1) (in-its-range 1 64 n e .1)) });
-}
-
--- ---- any count
-module _ (n l rule : ℕ) (lent kept withdrawn schedule kept' withdrawn' schedule' : List ℕ) (r : Answer) (lk : length kept ≡ 4096) (lw : length withdrawn ≡ 4096) (ls : length schedule ≡ 65536) (p : PlanResult n l rule lent kept withdrawn schedule kept' withdrawn' schedule' r) where
-  module _ (d : List ℕ) (same : n ≤ 64 → length d ≡ n * n → lent ≡ d) where
+  -- ---- any count
+  module _ (k' : Lent) (r : Answer) (given : List ℕ) (p : PlanResult n l rule given k k' r) (d : List ℕ) (same : n ≤ 64 → length d ≡ n * n → given ≡ d) where
     -- a refusal 1, 2 or 3
-    early : (x : Refusal) → refusedText (eqb (length d) (n * n)) x ≡ refusalText (refusalNumber x) (refusalPlace x) → verdictOf r ≡ verdict.Refused x → judge (n ∷ l ∷ rule ∷ d) ≡ Refuses x → Prints (judge (n ∷ l ∷ rule ∷ d)) (answerText (eqb (length d) (n * n)) n l rule kept' r)
+    early : (x : Refusal) → refusedText (eqb (length d) (n * n)) x ≡ refusalText (refusalNumber x) (refusalPlace x) → verdictOf r ≡ verdict.Refused x → judge (n ∷ l ∷ rule ∷ d) ≡ Refuses x →
+        Prints (judge (n ∷ l ∷ rule ∷ d)) (answerText (eqb (length d) (n * n)) n l rule (k' .kept) r)
     unfolding answerText
-    early x given v o =
-        prints-refusal (judge (n ∷ l ∷ rule ∷ d)) (answerText (eqb (length d) (n * n)) n l rule kept' r) x o
-        (ap (answerText (eqb (length d) (n * n)) n l rule kept') (is-refused r x v) ∙ given)
+    early x says v o =
+        prints-refusal (judge (n ∷ l ∷ rule ∷ d)) (answerText (eqb (length d) (n * n)) n l rule (k' .kept) r) x o
+        (ap (answerText (eqb (length d) (n * n)) n l rule (k' .kept)) (is-refused r x v) ∙ says)
 
     -- after the count nothing but `bad input` is printed where it is wrong
-    late : (b4 b5 b6 : Bool) (c : ℕ) → verdictOf r ≡ refuse b4 DemandShort (refuse b5 TableShort (refuse b6 (DemandAbove c) verdict.Accepted)) → answerText false n l rule kept' r ≡ badInput
-    unfolding answerText refusedText refuse
-    late true b5 b6 c v = ap (answerText false n l rule kept') (is-refused r DemandShort v)
-    late false true b6 c v = ap (answerText false n l rule kept') (is-refused r TableShort v)
-    late false false true c v = ap (answerText false n l rule kept') (is-refused r (DemandAbove c) v)
-    late false false false c v = ap (answerText false n l rule kept') (is-planned r v)
+    late : (b4 b5 b6 : Bool) (c : ℕ) →
+        verdictOf r ≡ then (refuse b4 DemandShort verdict.Accepted) (then (refuse b5 TableShort verdict.Accepted) (refuse b6 (DemandAbove c) verdict.Accepted)) →
+        answerText false n l rule (k' .kept) r ≡ badInput
+    unfolding answerText refusedText refuse then
+    late true b5 b6 c v = ap (answerText false n l rule (k' .kept)) (is-refused r DemandShort v)
+    late false true b6 c v = ap (answerText false n l rule (k' .kept)) (is-refused r TableShort v)
+    late false false true c v = ap (answerText false n l rule (k' .kept)) (is-refused r (DemandAbove c) v)
+    late false false false c v = ap (answerText false n l rule (k' .kept)) (is-planned r v)
 
-    numbers-print : Prints (judge (n ∷ l ∷ rule ∷ d)) (answerText (eqb (length d) (n * n)) n l rule kept' r)
-    unfolding planVerdict judge refusedText
+    numbers-print : Prints (judge (n ∷ l ∷ rule ∷ d)) (answerText (eqb (length d) (n * n)) n l rule (k' .kept) r)
+    unfolding planVerdict sizesVerdict ruleVerdict demandShortVerdict lentShortVerdict demandAboveVerdict judge refusedText
     numbers-print =
         by-test (nodesOut n)
-        (λ e1. early Nodes refl (p .answer ∙ sym (fires _ e1)) (taken _ _ e1))
+        (λ e1. early Nodes refl (p .answer ∙ sym (then-stops _ (fires _ e1) refl)) (taken _ _ e1))
         (λ e1. by-test (slotsOut l)
-        (λ e2. early Slots refl (p .answer ∙ sym (passes Nodes e1 (fires _ e2))) (left _ e1 (taken _ _ e2)))
+        (λ e2. early Slots refl (p .answer ∙ sym (then-stops _ (passes Nodes e1 (fires _ e2)) refl)) (left _ e1 (taken _ _ e2)))
         (λ e2. by-test (ruleOut rule)
-        (λ e3. early Rule refl (p .answer ∙ sym (passes Nodes e1 (passes Slots e2 (fires _ e3)))) (left _ e1 (left _ e2 (taken _ _ e3))))
+        (λ e3. early Rule refl (p .answer ∙ sym (then-goes (sizes-fit n l (sizes n l e1 e2)) refl (then-stops _ (fires _ e3) refl))) (left _ e1 (left _ e2 (taken _ _ e3))))
         (λ e3. by-test (eqb (length d) (n * n))
-        (λ whole. subst (λ t. Prints (judge (n ∷ l ∷ rule ∷ d)) (answerText t n l rule kept' r)) (sym whole) (whole-prints n l rule d kept withdrawn schedule kept' withdrawn' schedule' r lk lw ls (subst (λ s. PlanResult n l rule s kept withdrawn schedule kept' withdrawn' schedule' r) (same (in-its-range 1 64 n e1 .1) (eqb-true (length d) (n * n) whole)) p) e1 e2 e3 whole))
-        (λ wrong. prints-bad _ _ (left _ e1 (left _ e2 (left _ e3 (rw wrong refl)))) (ap (λ t. answerText t n l rule kept' r) wrong ∙ late _ _ _ _ (p .answer ∙ sym (passes Nodes e1 (passes Slots e2 (passes Rule e3 refl)))))))))
+        (λ whole.
+        subst (λ t. Prints (judge (n ∷ l ∷ rule ∷ d)) (answerText t n l rule (k' .kept) r)) (sym whole)
+        (whole-prints k' r d (subst (λ s. PlanResult n l rule s k k' r) (same (in-its-range 1 64 n e1 .1) (eqb-true (length d) (n * n) whole)) p) e1 e2 e3 whole))
+        (λ wrong.
+        prints-bad _ _ (left _ e1 (left _ e2 (left _ e3 (rw wrong refl))))
+        (ap (λ t. answerText t n l rule (k' .kept) r) wrong ∙ late _ _ _ _ (p .answer ∙ sym (then-goes (sizes-fit n l (sizes n l e1 e2)) refl (then-goes (rule-fits rule (ltb-false 1 rule e3)) refl refl))))))))
 
 -- ---- the numbers that a table stores
 -- what the table has of the list's demands
@@ -229,14 +239,14 @@ module _ (table numbers : List ℕ) (count end : ℕ) (size : length table ≡ 4
   listed : numbers ≡ getD table 0 0 ∷ getD table 1 0 ∷ getD table 2 0 ∷ drop 3 numbers
   listed = split numbers (omega (arith, s .counted)) ∙ cc (first 0 (omega arith), first 1 (omega arith), first 2 (omega arith))
 
-  module _ {n l rule : ℕ} {kept withdrawn schedule kept' withdrawn' schedule' : List ℕ} {r : Answer} (p : PlanResult n l rule (take (end - 3) (drop 3 table)) kept withdrawn schedule kept' withdrawn' schedule' r) (hn : n ≡ getD table 0 0) (hl : l ≡ getD table 1 0) (hr : rule ≡ getD table 2 0) (lk : length kept ≡ 4096) (lw : length withdrawn ≡ 4096) (ls : length schedule ≡ 65536) where
-    pub stored-prints : Prints (judge numbers) (answerText (eqb (count - 3) (n * n)) n l rule kept' r)
-    stored-prints =
-        subst (λ m. Prints (judge m) (answerText (eqb (count - 3) (n * n)) n l rule kept' r))
-        (cc (listed))
-        (subst (λ k. Prints (judge (n ∷ l ∷ rule ∷ drop 3 numbers)) (answerText (eqb k (n * n)) n l rule kept' r)) counted
-        (numbers-print n l rule (take (end - 3) (drop 3 table)) kept withdrawn schedule kept' withdrawn' schedule' r lk lw ls p (drop 3 numbers)
-        (λ few e. demands (omega (arith, counted, mul-small n n few few)))))
+  pub stored-prints : {n l rule : ℕ} {k k' : Lent} (r : Answer) → PlanResult n l rule (take (end - 3) (drop 3 table)) k k' r → n ≡ getD table 0 0 → l ≡ getD table 1 0 → rule ≡ getD table 2 0 →
+      length (k .kept) ≡ 4096 → length (k .withdrawn) ≡ 4096 → length (k .schedule) ≡ 65536 → Prints (judge numbers) (answerText (eqb (count - 3) (n * n)) n l rule (k' .kept) r)
+  stored-prints {n} {l} {rule} {k} {k'} r p hn hl hr lk lw ls =
+      subst (λ m. Prints (judge m) (answerText (eqb (count - 3) (n * n)) n l rule (k' .kept) r))
+      (cc (listed))
+      (subst (λ c. Prints (judge (n ∷ l ∷ rule ∷ drop 3 numbers)) (answerText (eqb c (n * n)) n l rule (k' .kept) r)) counted
+      (numbers-print n l rule k lk lw ls k' r (take (end - 3) (drop 3 table)) p (drop 3 numbers)
+      (λ few e. demands (omega (arith, counted, mul-small n n few few)))))
 
 -- ---- the whole input
 answered : (input : List ℕ) {out out' text : List ℕ} {r : ℕ} {o : Outcome} → outcome input ≡ o → Prints o text → Appended out out' 0 r text → Answered (Prints (outcome input)) out out' r

@@ -8,7 +8,7 @@ use Rattle.sums.proofs.Tables.{mul-small}
 use Rattle.pieces.specs.Bytes.{bytes}
 use Rattle.pieces.proofs.PieceLaws.{join-most}
 use Rattle.pieces.proofs.TextLaws.{decimal-length, marked-length, named-length}
-use Rattle.matrix_text.specs.Text.{headText, totalsText, markAfter, cellText, rowText, rowsText, planText, room}
+use Rattle.matrix_text.specs.Text.{headText, totalsText, markAfter, cellText, rowText, rowsText, planText, longestText}
 
 head-length : (n l rule : ℕ) → n < 4294967296 → l < 4294967296 → rule < 4294967296 → length (headText n l rule) ≤ 50
 unfolding headText
@@ -38,6 +38,6 @@ module _ (n : ℕ) (kept : List ℕ) (words : (p : ℕ) → getD kept p 0 < 4294
   unfolding rowsText
   rows-length few = omega (arith, join-most (rowText n kept) n (n * 11) (λ i h. row-length i), mul-small n n few few)
 
-  pub plan-fits : (l rule k f : ℕ) → n ≤ 64 → l < 4294967296 → rule < 4294967296 → k < 4294967296 → f < 4294967296 → length (planText n l rule k f kept) ≤ room
+  pub plan-fits : (l rule k f : ℕ) → n ≤ 64 → l < 4294967296 → rule < 4294967296 → k < 4294967296 → f < 4294967296 → length (planText n l rule k f kept) ≤ longestText
   unfolding planText
   plan-fits l rule k f few hl hr hk hf = simp length-append (omega (arith, head-length n l rule (omega arith) hl hr, totals-length k f hk hf, rows-length few))

@@ -17,7 +17,7 @@ use Rattle.star.specs.declared.refusals.Refusal.the-variants.{Nodes, Slots, Rul
 use Rattle.star.specs.Refusals.{firstAbove}
 use Rattle.star.specs.Lines.{total}
 use Rattle.star.proofs.LineLaws.{total-ext}
-use Rattle.star.proofs.RefusalLaws.{in-its-range, inside, within-range, none-above}
+use Rattle.star.proofs.RefusalLaws.{inside, within-range, none-above}
 use Rattle.pieces.specs.Pieces.{Answered}
 use Rattle.pieces.specs.Text.{marked}
 use Rattle.pieces.proofs.PieceLaws.{join-ext, answered-same}
@@ -26,7 +26,7 @@ use Rattle.number_list.specs.Input.{listOf}
 use Rattle.matrix_text.specs.Text.{headText, totalsText, markAfter, cellText, rowText, rowsText, planText}
 use Rattle.matrix_text.specs.Outcomes.{Outcome, BadInput, Refuses, Plans, orElse, judge, judgeList, outcome, outcomeText, Prints}
 use Rattle.matrix_text.specs.Theorems.{Same, LeastText, TextsAgree, InOrder, TextTheorems}
-use Rattle.matrix_text.proofs.OutcomeLaws.{left}
+use Rattle.matrix_text.proofs.OutcomeLaws.{left, sizes}
 
 -- ---- kept matrices with the same cells print the same text
 module _ (n : ℕ) (k₁ k₂ : List ℕ) (same : (i j : ℕ) → i < n → j < n → cell n k₁ i j ≡ cell n k₂ i j) where
@@ -39,8 +39,8 @@ module _ (n : ℕ) (k₁ k₂ : List ℕ) (same : (i j : ℕ) → i < n → j < 
   text-ext l rule d = rw (total-ext n k₁ k₂ same, rows-ext) refl
 
 -- ---- texts of one outcome
-text-of : {o o' : Outcome} {t : List ℕ} → o ≡ o' → (p : Prints o t) → t ≡ outcomeText o' (p .kept)
-text-of e p = p .printed ∙ ap (λ x. outcomeText x (p .kept)) e
+text-of : {o o' : Outcome} {t : List ℕ} → o ≡ o' → (p : Prints o t) → t ≡ outcomeText o' (p .plan .kept)
+text-of e p = p .printed ∙ ap (λ x. outcomeText x (p .plan .kept)) e
 
 bad-text : {o : Outcome} {t₁ t₂ : List ℕ} → o ≡ BadInput → Prints o t₁ → Prints o t₂ → t₁ ≡ t₂
 unfolding outcomeText
@@ -53,17 +53,15 @@ refusal-text x e a b = text-of e a ∙ sym (text-of e b)
 fair-text : {o : Outcome} {t₁ t₂ : List ℕ} (n l : ℕ) (d : List ℕ) → o ≡ Plans n l 0 d → Prints o t₁ → Prints o t₂ → t₁ ≡ t₂
 fair-text n l d e a b =
     let one-matrix = a .planned n l 0 d e .fair refl .0 ∙ sym (b .planned n l 0 d e .fair refl .0) in
-    text-of e a ∙ text-ext n (a .kept) (b .kept) (first-cells n (a .kept) (b .kept) one-matrix) l 0 d ∙ sym (text-of e b)
+    text-of e a ∙ text-ext n (a .plan .kept) (b .plan .kept) (first-cells n (a .plan .kept) (b .plan .kept) one-matrix) l 0 d ∙ sym (text-of e b)
 
 -- where k is the kept total
-least-text : {o : Outcome} {t : List ℕ} (n l : ℕ) (d : List ℕ) (k : ℕ) → o ≡ Plans n l 1 d → (p : Prints o t) → total n (p .kept) ≡ k → LeastText n l d k (total n d - k) t
+least-text : {o : Outcome} {t : List ℕ} (n l : ℕ) (d : List ℕ) (k : ℕ) → o ≡ Plans n l 1 d → (p : Prints o t) → total n (p .plan .kept) ≡ k → LeastText n l d k (total n d - k) t
 unfolding outcomeText planText
 least-text n l d k e p is = record {
-  kept = p .kept;
-  withdrawn = p .withdrawn;
-  schedule = p .schedule;
+  plan = p .plan;
   planned = p .planned n l 1 d e;
-  lines = text-of e p ∙ ap (λ x. headText n l 1 ++ totalsText x (total n d - x) ++ rowsText n (p .kept)) is;
+  lines = text-of e p ∙ ap (λ x. headText n l 1 ++ totalsText x (total n d - x) ++ rowsText n (p .plan .kept)) is;
 }
 
 -- ---- two answers
@@ -85,7 +83,7 @@ module _ (input out out₁ out₂ : List ℕ) (r₁ r₂ : ℕ) (a : Answered (P
     refused = λ x e. same (refusal-text x e (a .prints) (b .prints));
     fair = λ n l d e. same (fair-text n l d e (a .prints) (b .prints));
     least = λ n l d e.
-        let k = total n (a .prints .kept) in
+        let k = total n (a .prints .plan .kept) in
         record {
           keeps = k;
           refuses = total n d - k;
@@ -101,8 +99,8 @@ unfolding outcome judgeList judge firstAbove
 text-planned input n l rule d h =
     left BadInput (le-ltb 65536 (length input) (h .short))
     (ap judgeList (h .listed)
-    ∙ left (Refuses Nodes) (inside 1 64 n (h .nodes .0) (h .nodes .1))
-    (left (Refuses Slots) (inside 1 1024 l (h .slots .0) (h .slots .1))
+    ∙ left (Refuses Nodes) (inside 1 64 n (h .sizes .some-nodes) (h .sizes .nodes))
+    (left (Refuses Slots) (inside 1 1024 l (h .sizes .some-slots) (h .sizes .slots))
     (left (Refuses Rule) (le-ltb 1 rule (h .known-rule))
     (rw (eq-eqb (length d) (n * n) (h .count)) (left (Refuses (DemandAbove (firstAbove n d))) (none-above n d (h .demands)) refl)))))
 
@@ -143,8 +141,7 @@ module _ (n l rule : ℕ) (d : List ℕ) where
       record {
         short = h;
         listed = s ∙ rw (en, el, er, ed) refl;
-        nodes = rw (← en) (in-its-range 1 64 m (e1 .0));
-        slots = rw (← el) (in-its-range 1 1024 k (e2 .0));
+        sizes = rw (← en, ← el) (sizes m k (e1 .0) (e2 .0));
         known-rule = rw (← er) (ltb-false 1 x (e3 .0));
         count = rw (← en, ← ed) (eqb-true (length c) (m * m) (e4 .0));
         demands = rw (← en, ← ed) (within-range m c (ltb-false (firstAbove m c) (m * m) (e6 .0)) .most);

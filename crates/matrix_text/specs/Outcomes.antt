@@ -11,7 +11,7 @@ use Rattle.star.specs.declared.refusals.Refusal.the-variants.{Nodes, Slots, Rul
 use Rattle.star.specs.Refusals.{nodesOut, slotsOut, ruleOut, someCell, firstAbove, refusalNumber, refusalPlace}
 use Rattle.star.specs.Lines.{total, wholeFrame}
 use Rattle.pieces.specs.Text.{badInput, refusalText}
-use Rattle.planner.specs.Plans.{Plan}
+use Rattle.planner.specs.Plans.{Lent, Plan}
 use Rattle.number_list.specs.Input.{listOf}
 use Rattle.matrix_text.specs.Text.{planText}
 
@@ -59,8 +59,6 @@ outcomeText (Plans n l rule d) kept = planText n l rule (total n kept) (total n 
 -- The text for an outcome: where a plan is printed, there is one with this kept matrix. Under rule 0 and without a plan this fixes the text;
 -- under rule 1 which greatest withdrawn matrix is found is free, and kept follows from it.
 pub record Prints (o : Outcome) (text : List ℕ) : Type 0 where
-  pub kept : List ℕ
-  pub withdrawn : List ℕ
-  pub schedule : List ℕ
-  pub planned : (n l rule : ℕ) (d : List ℕ) → o ≡ Plans n l rule d → Plan n l rule (wholeFrame n l) d kept withdrawn schedule
-  pub printed : text ≡ outcomeText o kept
+  pub plan : Lent
+  pub planned : (n l rule : ℕ) (d : List ℕ) → o ≡ Plans n l rule d → Plan n l rule (wholeFrame n l) d plan
+  pub printed : text ≡ outcomeText o (plan .kept)

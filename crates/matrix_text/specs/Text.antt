@@ -34,7 +34,7 @@ rowsText n kept = joinTo n (rowText n kept)
 unfoldable pub planText : (n l rule keptTotal refusedTotal : ℕ) (kept : List ℕ) → List ℕ
 planText n l rule keptTotal refusedTotal kept = headText n l rule ++ totalsText keptTotal refusedTotal ++ rowsText n kept
 
--- Room for the longest text of numbers with at most ten digits: 64 lines of 64 numbers, each with the byte after it, under lines of at most 50
--- and 35 bytes.
-abbrev pub room : ℕ
-room = 45141
+-- Bytes enough for the longest text of numbers with at most ten digits: 64 lines of 64 numbers, each with the byte after it, under lines of at most
+-- 50 and 35 bytes.
+abbrev pub longestText : ℕ
+longestText = 45141

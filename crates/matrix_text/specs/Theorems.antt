@@ -6,8 +6,9 @@ use mathlib.Core.Option.{some}
 use lib.ListN.{length, getD, drop}
 use Rattle.star.specs.declared.refusals.Refusal.{Refusal}
 use Rattle.star.specs.Lines.{wholeFrame}
+use Rattle.star.specs.Checks.{Sizes}
 use Rattle.pieces.specs.Pieces.{Answered}
-use Rattle.planner.specs.Plans.{Plan}
+use Rattle.planner.specs.Plans.{Lent, Plan}
 use Rattle.number_list.specs.Input.{listOf}
 use Rattle.matrix_text.specs.Text.{headText, totalsText, rowsText}
 use Rattle.matrix_text.specs.Outcomes.{Outcome, BadInput, Refuses, Plans, outcome, Prints}
@@ -20,11 +21,9 @@ pub record Same (text₁ out₁ : List ℕ) (r₁ : ℕ) (text₂ out₂ : List 
 
 -- A text of the least rule: line 1, line 2 with these two totals, and the kept rows of a plan of the demand.
 pub record LeastText (n l : ℕ) (d : List ℕ) (keeps refuses : ℕ) (text : List ℕ) : Type 0 where
-  pub kept : List ℕ
-  pub withdrawn : List ℕ
-  pub schedule : List ℕ
-  pub planned : Plan n l 1 (wholeFrame n l) d kept withdrawn schedule
-  pub lines : text ≡ headText n l 1 ++ totalsText keeps refuses ++ rowsText n kept
+  pub plan : Lent
+  pub planned : Plan n l 1 (wholeFrame n l) d plan
+  pub lines : text ≡ headText n l 1 ++ totalsText keeps refuses ++ rowsText n (plan .kept)
 
 -- Two answers under the least rule: line 1 and line 2, both totals included, are the same; the kept rows are those of two plans of the demand; the
 -- lent bytes past both texts are the same.
@@ -47,8 +46,7 @@ pub record TextsAgree (o : Outcome) (text₁ out₁ : List ℕ) (r₁ : ℕ) (te
 pub record InOrder (input : List ℕ) (n l rule : ℕ) (d : List ℕ) : Type 0 where
   pub short : length input ≤ 65536
   pub listed : listOf input ≡ some (n ∷ l ∷ rule ∷ d)
-  pub nodes : (1 ≤ n) × (n ≤ 64)
-  pub slots : (1 ≤ l) × (l ≤ 1024)
+  pub sizes : Sizes n l
   pub known-rule : rule ≤ 1
   pub count : length d ≡ n * n
   pub demands : (p : ℕ) → p < n * n → getD d p 0 ≤ 65535

@@ -24,7 +24,7 @@ refusedText whole x = elim (leb (refusalNumber x) 3 || whole) [ true ↦ refusal
 
 -- what is printed of an answer of `plan`
 unfoldable pub answerText : (whole : Bool) (n l rule : ℕ) (kept : List ℕ) → Answer → List ℕ
-answerText whole n l rule kept (Planned k f c) = elim whole [ true ↦ planText n l rule k f kept | false ↦ badInput ]
+answerText whole n l rule kept (Planned f) = elim whole [ true ↦ planText n l rule (f .kept) (f .refused) kept | false ↦ badInput ]
 answerText whole n l rule kept (Refused x) = refusedText whole x
 
 -- a plan has a kept matrix to print

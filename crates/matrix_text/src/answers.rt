@@ -15,16 +15,16 @@ ghost use Prim.Native.Nat.{_*_, _≤_, min};
 ghost use lib.Dec.{eqb};
 ghost use lib.ListN.{length};
 ghost use Rattle.pieces.specs.Pieces.{Appended, Answered};
-ghost use Rattle.matrix_text.specs.Text.{room};
+ghost use Rattle.matrix_text.specs.Text.{longestText};
 ghost use Rattle.matrix_text.specs.Outcomes.{outcome, Prints};
 ghost use Rattle.matrix_text.specs.Writes.{refusedText, answerText, Printable, Judged};
 
 // Bytes enough for the longest text.
-pub const ROOM: usize = 45141;
+pub const LONGEST_TEXT: usize = 45141;
 
 // Prints a refusal of `plan`; `whole` says that the count of demands is right.
 fn put_refused(out: &mut [u8], refusal: Refusal, whole: bool) -> usize
-    requires { ⌜ room ≤ length (now out) ⌝ }
+    requires { ⌜ longestText ≤ length (now out) ⌝ }
     ensures { λ r. ⌜ Appended (now (out .entry)) (now (out .exit)) 0 r (refusedText whole refusal) ⌝ }
 {
     let verdict = Verdict::Refused { refusal };
@@ -46,19 +46,15 @@ fn put_answer(
     rule: u32,
     kept: &[u32],
 ) -> usize
-    requires { ⌜ room ≤ length (now out) ⌝ }
+    requires { ⌜ longestText ≤ length (now out) ⌝ }
     requires { ⌜ Printable nodes (now kept) answer ⌝ }
     ensures { λ r. ⌜ Appended (now (out .entry)) (now (out .exit)) 0 r (answerText whole nodes slots rule (now (kept .entry)) answer) ⌝ }
 {
     match answer {
         Answer::Refused { refusal } => put_refused(out, refusal, whole),
-        Answer::Planned {
-            kept: keeps,
-            refused: refuses,
-            reconfigurations: _,
-        } => {
+        Answer::Planned { report } => {
             if whole {
-                put_plan(out, nodes, slots, rule, keeps, refuses, kept)
+                put_plan(out, nodes, slots, rule, report.kept, report.refused, kept)
             } else {
                 put_bad_input(out)
             }
@@ -74,17 +70,16 @@ fn is_whole(nodes: u32, demands: usize) -> bool
     demands == n * n
 }
 
-// The smaller of two numbers.
-fn smaller(a: usize, b: usize) -> usize
-    ensures { λ r. ⌜ r ≡ min a b ⌝ }
+// How many of the numbers the table stores: the first 4,099, all that the largest star takes.
+fn stored(count: usize) -> usize
+    ensures { λ r. ⌜ r ≡ min count 4099 ⌝ }
 {
-    if a < b { a } else { b }
+    if count < 4099 { count } else { 4099 }
 }
 
-// Judges the numbers, of which the table stores the first 4,099: all that the largest star takes. `plan` gives 1, 2 and 3 before it looks at
-// the demand, so that the count of demands is judged after it.
+// Judges the numbers that the table stores. `plan` gives 1, 2 and 3 before it looks at the demand, so that the count of demands is judged after it.
 fn put_judged(out: &mut [u8], table: &[u32], count: usize) -> usize
-    requires { ⌜ (room ≤ length (now out)) × (length (now table) ≡ 4099) ⌝ }
+    requires { ⌜ (longestText ≤ length (now out)) × (length (now table) ≡ 4099) ⌝ }
     ensures { λ r. ⌜ Judged (now (table .entry)) count (now (out .entry)) (now (out .exit)) r ⌝ }
 {
     if count < 3 {
@@ -93,7 +88,7 @@ fn put_judged(out: &mut [u8], table: &[u32], count: usize) -> usize
     let nodes = table[0];
     let slots = table[1];
     let rule = table[2];
-    let end = smaller(count, 4099);
+    let end = stored(count);
     let mut kept = [0u32; 4096];
     let mut withdrawn = [0u32; 4096];
     let mut schedule = [0u8; 65536];
@@ -118,7 +113,7 @@ fn put_judged(out: &mut [u8], table: &[u32], count: usize) -> usize
 }
 
 // Writes the answer to an input at the front of `out`, and gives its length.
-pub fn answer(input: &[u8], out: &mut [u8; ROOM]) -> usize
+pub fn answer(input: &[u8], out: &mut [u8; LONGEST_TEXT]) -> usize
     ensures { λ r. ⌜ Answered (Prints (outcome (now (input .entry)))) (now (out .entry)) (now (out .exit)) r ⌝ }
 {
     if input.len() > 65536 {

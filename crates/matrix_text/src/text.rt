@@ -1,5 +1,5 @@
 // The text of a plan, piece by piece. Each function that puts a piece gives the place after it. A piece is written from `at` on, and must fit; the whole
-// text is written from the front, and asks for room for the longest.
+// text is written from the front, and asks for as many bytes as the longest has.
 use pieces::put_byte;
 use pieces::put_marked;
 use pieces::put_named;
@@ -9,7 +9,7 @@ ghost use Prim.Native.Nat.{_+_, _≤_, _<_};
 ghost use lib.ListN.{length};
 ghost use Rattle.star.specs.Tables.{Square};
 ghost use Rattle.pieces.specs.Pieces.{Appended};
-ghost use Rattle.matrix_text.specs.Text.{headText, totalsText, markAfter, cellText, rowText, rowsText, planText, room};
+ghost use Rattle.matrix_text.specs.Text.{headText, totalsText, markAfter, cellText, rowText, rowsText, planText, longestText};
 
 // The byte after the number of destination j.
 fn mark_after(n: usize, j: usize) -> u8
@@ -90,7 +90,7 @@ pub fn put_plan(
     kept: &[u32],
 ) -> usize
     requires { ⌜ Square nodes (now kept) ⌝ }
-    requires { ⌜ room ≤ length (now out) ⌝ }
+    requires { ⌜ longestText ≤ length (now out) ⌝ }
     ensures { λ r. ⌜ Appended (now (out .entry)) (now (out .exit)) 0 r (planText nodes slots rule keeps refuses (now (kept .entry))) ⌝ }
 {
     let after_head = put_head(out, 0, nodes, slots, rule);

@@ -12,12 +12,12 @@ use Rattle.flow.proofs.Check.{below?, lines?, feasible?}
 use Rattle.least.specs.Least.{keptFrom, keptCell, left, longer, share, remainder, missing, before, rank, shared}
 use Rattle.worked.specs.Worked.{WorkedLines}
 use Rattle.worked.proofs.Marks.{by-marks}
-use Rattle.worked.proofs.Only.{only-line, room, offBoth, bound, rowOnly?, only?}
+use Rattle.worked.proofs.Only.{only-line, atMost, offBoth, bound, rowOnly?, only?}
 use Rattle.worked.proofs.Nothing.{nothing}
 use Rattle.worked.proofs.OneNode.{one-node}
 
 pub worked : WorkedLines
-unfolding sumTo cell tab square wholeFrame lineSum onLine sourceOn destinationOn total slack excess fairKept steps step uncut taken smaller exceeds numerator modifiedSum unmodifiedSum modified cutLine cutCell cut allBelow below? lines? feasible? keptFrom keptCell left longer share remainder missing before rank shared room offBoth bound rowOnly? only?
+unfolding sumTo cell tab square wholeFrame lineSum onLine sourceOn destinationOn total slack excess fairKept steps step uncut taken smaller exceeds numerator modifiedSum unmodifiedSum modified cutLine cutCell cut allBelow below? lines? feasible? keptFrom keptCell left longer share remainder missing before rank shared atMost offBoth bound rowOnly? only?
 worked = record {
   a-fair = record { keeps = refl; refuses = refl };
   a-least = only-line (record { withdraws = by-marks _ _ _ _ (0 ∷ 0 ∷ []) refl refl; keeps = refl; refuses = refl }) refl;

@@ -17,13 +17,14 @@ use Rattle.sums.proofs.Cases.{by-eq}
 use Rattle.sums.proofs.Searches.{some-none}
 use Rattle.sums.proofs.Tables.{cell-lt, square-ext, take-cell}
 use Rattle.star.specs.Lines.{total, wholeFrame}
+use Rattle.star.specs.Checks.{Sizes}
 use Rattle.star.specs.Schedules.{Carries, count, differ, reconfigurations}
 use Rattle.star.proofs.LineLaws.{line-zero}
 use Rattle.fair.specs.Fair.{fairKept}
 use Rattle.fair.proofs.Steps.{fair-length, fair-below}
 use Rattle.least.specs.Least.{Greatest, keptFrom}
 use Rattle.least.proofs.Keeping.{length-kept, kept-below}
-use Rattle.planner.specs.Plans.{Plan}
+use Rattle.planner.specs.Plans.{Lent, Plan}
 use Rattle.worked.specs.Worked.{NothingAsked}
 
 -- ---- what is kept
@@ -92,23 +93,23 @@ module _ (n l : ℕ) (cap d : List ℕ) (n64 : n ≤ 64) (zeros : (i j : ℕ) �
     most = λ b w. omega (arith, total-nothing b (w .below));
   }
 
-pub nothing : (n l rule : ℕ) (d : List ℕ) → 1 ≤ n → n ≤ 64 → 1 ≤ l → l ≤ 1024 → rule ≤ 1 → ((i j : ℕ) → i < n → j < n → cell n d i j ≡ 0) → NothingAsked n l rule d
-nothing n l rule d n1 n64 l1 l1024 known zeros = record {
-  keeps = λ k a s p. kept k a s p;
-  idles = λ k a s p. idle n l s k (p .carried) (kept k a s p);
-  stays = λ k a s p. unchanged n l s k (p .carried) (kept k a s p);
+pub nothing : (n l rule : ℕ) (d : List ℕ) → Sizes n l → rule ≤ 1 → ((i j : ℕ) → i < n → j < n → cell n d i j ≡ 0) → NothingAsked n l rule d
+nothing n l rule d sizes known zeros = record {
+  keeps = none-kept;
+  idles = λ k p. idle n l (k .schedule) (k .kept) (p .carried) (none-kept k p);
+  stays = λ k p. unchanged n l (k .schedule) (k .kept) (p .carried) (none-kept k p);
   planned = record {
     fair = λ e. (all-zeros n (fairKept n cap d) (fair-length n cap d) (fair-nothing n cap d zeros), take-all (n * n) (replicate (n * n) 0) (omega (arith, length-replicate {A = ℕ} (n * n) 0)));
-    least = λ e. (greatest n l cap d n64 zeros, all-zeros n (keptFrom n cap d (replicate (n * n) 0)) (length-kept n cap d (replicate (n * n) 0)) (least-nothing n cap d zeros (replicate (n * n) 0)));
-    carried = carries n l cap d n64 zeros;
+    least = λ e. (greatest n l cap d (sizes .nodes) zeros, all-zeros n (keptFrom n cap d (replicate (n * n) 0)) (length-kept n cap d (replicate (n * n) 0)) (least-nothing n cap d zeros (replicate (n * n) 0)));
+    carried = carries n l cap d (sizes .nodes) zeros;
   };
 }
   where
     cap : List ℕ
     cap = wholeFrame n l
 
-    kept : (k a s : List ℕ) → Plan n l rule (wholeFrame n l) d k a s → (i j : ℕ) → i < n → j < n → cell n k i j ≡ 0
-    kept k a s p i j hi hj =
+    none-kept : (k : Lent) → Plan n l rule (wholeFrame n l) d k → (i j : ℕ) → i < n → j < n → cell n (k .kept) i j ≡ 0
+    none-kept k p i j hi hj =
         by-eq rule 0
-        (λ e. take-cell n k (fairKept n (wholeFrame n l) d) (p .fair e .0) i j hi hj ∙ fair-nothing n (wholeFrame n l) d zeros i j hi hj)
-        (λ ne. take-cell n k (keptFrom n (wholeFrame n l) d a) (p .least (omega arith) .1) i j hi hj ∙ least-nothing n (wholeFrame n l) d zeros a i j hi hj)
+        (λ e. take-cell n (k .kept) (fairKept n (wholeFrame n l) d) (p .fair e .0) i j hi hj ∙ fair-nothing n (wholeFrame n l) d zeros i j hi hj)
+        (λ ne. take-cell n (k .kept) (keptFrom n (wholeFrame n l) d (k .withdrawn)) (p .least (omega arith) .1) i j hi hj ∙ least-nothing n (wholeFrame n l) d zeros (k .withdrawn) i j hi hj)

@@ -7,29 +7,32 @@ use mathlib.Core.Logic.{inl}
 use mathlib.Core.List.{List, [], _∷_}
 use lib.ListN.{length, getD, getD-replicate}
 use lib.Seq.{getD-take}
-use borrow.Author.Tests.{le-ltb}
 use Rattle.sums.specs.Sums.{sumTo, hit}
 use Rattle.sums.specs.Searches.{firstFrom, firstBelow, someBelow}
 use Rattle.sums.specs.Tables.{cell, tab, square, written}
 use Rattle.sums.proofs.Searches.{allBelow}
 use Rattle.star.specs.declared.refusals.Verdict.{Verdict}
 use Rattle.star.specs.declared.refusals.Verdict.the-variants.{Accepted}
-use Rattle.star.specs.Refusals.{noticeOf, check, refuse, firstAbove}
+use Rattle.star.specs.Refusals.{check, refuse, then, firstAbove}
 use Rattle.star.specs.Lines.{wholeFrame, lineSum, onLine, sourceOn, destinationOn, total, slack, excess}
+use Rattle.star.specs.Checks.{sizesVerdict, ruleVerdict, settingsVerdict, rangesVerdict, demandShortVerdict, demandAboveVerdict}
 use Rattle.star.specs.Schedules.{Carries, count, differ, reconfigurations}
+use Rattle.star.proofs.RefusalLaws.{promise-done}
 use Rattle.flow.specs.Flows.{cut}
 use Rattle.flow.proofs.Check.{below?, lines?, feasible?}
 use Rattle.least.specs.Least.{Greatest, keptFrom, keptCell, left, longer, share, remainder, missing, before, rank, shared}
+use Rattle.planner.specs.declared.answers.Report.{Report}
 use Rattle.planner.specs.declared.answers.Answer.{Answer}
 use Rattle.planner.specs.declared.answers.Answer.the-variants.{Planned}
-use Rattle.planner.specs.Plans.{verdictOf}
-use Rattle.calls.specs.declared.record.Run.{Run}
+use Rattle.planner.specs.Plans.{Lent, lent, lentShortVerdict, LentRoom}
 use Rattle.books.specs.Books.{booksAgree, firstDisagreeing}
-use Rattle.calls.specs.Runs.{freshVerdict, freshNotice, freshRun, cleared, postVerdict, postNotice, postRun, postPosted, postDropped, postWaiting, frameVerdict, frameRun}
-use Rattle.calls.proofs.Outcomes.{frame-notice}
-use Rattle.run.specs.Held.{Held, held, FreshCall, PostCall, FrameCall}
-use Rattle.run.proofs.CallLaws.{held-same}
-use Rattle.worked.specs.Worked.{RunLine, start}
+use Rattle.books.specs.Queues.{zeroed, more, overflowed, queued, served}
+use Rattle.calls.specs.declared.record.Run.{Run}
+use Rattle.calls.specs.Held.{Held}
+use Rattle.calls.specs.Checks.{heldShortVerdict, agreementVerdict, countVerdict}
+use Rattle.calls.specs.Runs.{freshVerdict, freshNotice, Freshened, postVerdict, postNotice, Posted, frameVerdict, Framed}
+use Rattle.calls.proofs.Verdicts.{frame-accepted, frame-accepts, frame-notice}
+use Rattle.worked.specs.Worked.{ofOne, RunLine}
 use Rattle.worked.proofs.Marks.{by-marks}
 
 -- the record of this run after so many posts and frames
@@ -37,32 +40,16 @@ abbrev one : (posts frames : ℕ) → Run
 one posts frames = record { nodes = 1; slots = 4; limit = 6; rule = 1; posts = posts; frames = frames }
 
 -- ---- fresh
-fresh-step : (old : Run) (w p s d : ℕ) (h h' : Held) (v : Verdict) → h ≡ start old w p s d → FreshCall 1 4 6 1 h h' v → h' ≡ held (one 0 0) (0 ∷ []) (0 ∷ []) (0 ∷ []) (0 ∷ [])
-unfolding freshVerdict freshRun cleared refuse written
-fresh-step old w p s d h h' v e call =
-    let f : FreshCall 1 4 6 1 (start old w p s d) h' v = subst (λ x. FreshCall 1 4 6 1 x h' v) e call in
-    let a : v ≡ Accepted = f .tables .answer in
-    held-same
-    (f .record' ∙ ap (freshRun old 1 4 6 1) a)
-    (f .tables .now-waiting ∙ ap (cleared 1 (w ∷ [])) a)
-    (f .tables .now-posted ∙ ap (cleared 1 (p ∷ [])) a)
-    (f .tables .now-sent ∙ ap (cleared 1 (s ∷ [])) a)
-    (f .tables .now-dropped ∙ ap (cleared 1 (d ∷ [])) a)
+fresh-step : (old : Run) (w p s d : ℕ) (h : Held) (v : Verdict) → Freshened 1 4 6 1 (ofOne old w p s d) h v → h ≡ ofOne (one 0 0) 0 0 0 0
+unfolding freshVerdict rangesVerdict settingsVerdict ruleVerdict sizesVerdict heldShortVerdict then refuse zeroed written
+fresh-step old w p s d h v call = call .accepted (call .answer)
 
 -- ---- post
-post-step : (x posts frames w p s d : ℕ) (h h' : Held) (v : Verdict) → h ≡ held (one posts frames) (w ∷ []) (p ∷ []) (s ∷ []) (d ∷ []) →
-    postVerdict (one posts frames) (x ∷ []) (w ∷ []) (p ∷ []) (s ∷ []) (d ∷ []) ≡ Accepted → PostCall (x ∷ []) h h' v →
-    h' ≡ held (one (posts + 1) frames) (min (w + x) 6 ∷ []) ((p + x) ∷ []) (s ∷ []) ((d + (w + x - 6)) ∷ [])
-unfolding postRun postPosted postDropped postWaiting written tab
-post-step x posts frames w p s d h h' v e accepted call =
-    let f = subst (λ y. PostCall (x ∷ []) y h' v) e call in
-    let a : v ≡ Accepted = f .tables .answer ∙ accepted in
-    held-same
-    (f .record' ∙ ap (postRun (one posts frames)) a)
-    (f .tables .now-waiting ∙ ap (postWaiting (one posts frames) (x ∷ []) (w ∷ [])) a)
-    (f .tables .now-posted ∙ ap (postPosted (one posts frames) (x ∷ []) (p ∷ [])) a)
-    (f .same-sent)
-    (f .tables .now-dropped ∙ ap (postDropped (one posts frames) (x ∷ []) (w ∷ []) (d ∷ [])) a)
+post-step : (x posts frames w p s d : ℕ) (h h' : Held) (v : Verdict) → h ≡ ofOne (one posts frames) w p s d →
+    postVerdict (x ∷ []) (ofOne (one posts frames) w p s d) ≡ Accepted → Posted (x ∷ []) h h' v →
+    h' ≡ ofOne (one (posts + 1) frames) (min (w + x) 6) (p + x) s (d + (w + x - 6))
+unfolding queued more overflowed written tab
+post-step x posts frames w p s d h h' v e accepted call = let f = subst (λ y. Posted (x ∷ []) y h' v) e call in f .accepted (f .answer ∙ accepted)
 
 -- ---- frame
 -- the greatest A of one cell is one number, and leaves 4
@@ -78,29 +65,28 @@ kept-four : (x : ℕ) (a : List ℕ) → left 1 (x ∷ []) a ≡ 4 ∷ [] → ke
 unfolding keptFrom keptCell longer share remainder missing before rank shared wholeFrame lineSum onLine sourceOn destinationOn sumTo cell tab square
 kept-four x a e = ap (λ z. square 1 (keptCell 1 (wholeFrame 1 4) z)) e
 
-frame-step : (x y posts frames p s d : ℕ) (h h' : Held) (r : Answer) (k a b k' a' b' : List ℕ) → h ≡ held (one posts frames) (x ∷ []) (p ∷ []) (s ∷ []) (d ∷ []) →
-    frameVerdict (one posts frames) (x ∷ []) (p ∷ []) (s ∷ []) (d ∷ []) (length k) (length a) (length b) ≡ Accepted →
-    x - y ≡ 4 → Greatest 1 (wholeFrame 1 4) (x ∷ []) (y ∷ []) → FrameCall k a b k' a' b' h h' r →
-    h' ≡ held (one posts (frames + 1)) ((x - 4) ∷ []) (p ∷ []) ((s + 4) ∷ []) (d ∷ [])
-unfolding frameRun written tab
-frame-step x y posts frames p s d h h' r k a b k' a' b' e accepted leaves g call =
-    let f = subst (λ z. FrameCall k a b k' a' b' z h' r) e call in
-    let yes : verdictOf r ≡ Accepted = f .tables .answer ∙ accepted in
-    let plan = f .tables .accepted yes .plan .least refl in
-    let four : getD k' 0 0 ≡ 4 = sym (getD-take 1 k' 0 0 (omega arith)) ∙ ap (λ z. getD z 0 0) (plan .1 ∙ kept-four x a' (forced x y a' leaves g (plan .0))) in
-    held-same
-    (f .record' ∙ ap (frameRun (one posts frames)) yes)
-    (f .tables .now-waiting yes ∙ ap (λ z. (x - z) ∷ []) four)
-    (f .same-posted)
-    (f .tables .now-sent yes ∙ ap (λ z. (s + z) ∷ []) four)
-    (f .same-dropped)
+-- the smallest tables that a frame of this run can be lent
+abbrev smallest : (kept withdrawn : ℕ) → Lent
+smallest kept withdrawn = lent (kept ∷ []) (withdrawn ∷ []) (0 ∷ 0 ∷ 0 ∷ 0 ∷ [])
 
--- the frames' tables are long enough
-frame-accepted : (x posts frames p s d : ℕ) (k a b : List ℕ) → 1 ≤ length k → 1 ≤ length a → 4 ≤ length b →
-    frameVerdict (one posts frames) (x ∷ []) (p ∷ []) (s ∷ []) (d ∷ []) 1 1 4 ≡ Accepted →
-    frameVerdict (one posts frames) (x ∷ []) (p ∷ []) (s ∷ []) (d ∷ []) (length k) (length a) (length b) ≡ Accepted
-unfolding frameVerdict refuse
-frame-accepted x posts frames p s d k a b hk ha hb e = simp (le-ltb (length k) 1 hk, le-ltb (length a) 1 ha, le-ltb (length b) 4 hb) e
+-- longer ones are accepted too
+long-accepted : (x posts frames p s d : ℕ) (k : Lent) → LentRoom 1 4 k → frameVerdict (ofOne (one posts frames) x p s d) 1 1 4 ≡ Accepted →
+    frameVerdict (ofOne (one posts frames) x p s d) (length (k .kept)) (length (k .withdrawn)) (length (k .schedule)) ≡ Accepted
+long-accepted x posts frames p s d k room e =
+    let a = frame-accepted (ofOne (one posts frames) x p s d) (smallest 0 0) e in
+    sym (frame-accepts (record { ranges = a .ranges; long-enough = a .long-enough; tables = room; balanced = a .balanced; few = a .few }))
+
+frame-step : (x y posts frames p s d : ℕ) (h h' : Held) (r : Answer) (k k' : Lent) → h ≡ ofOne (one posts frames) x p s d → LentRoom 1 4 k →
+    frameVerdict (ofOne (one posts frames) x p s d) 1 1 4 ≡ Accepted → x - y ≡ 4 → Greatest 1 (wholeFrame 1 4) (x ∷ []) (y ∷ []) → Framed k k' h h' r →
+    h' ≡ ofOne (one posts (frames + 1)) (x - 4) p (s + 4) d
+unfolding served more written tab
+frame-step x y posts frames p s d h h' r k k' e room accepted leaves g call =
+    let f = subst (λ z. Framed k k' z h' r) e call in
+    let done = f .accepted (f .answer ∙ long-accepted x posts frames p s d k room accepted) in
+    let plan = done .plan .wrote .plan .least refl in
+    let four : getD (k' .kept) 0 0 ≡ 4
+    = sym (getD-take 1 (k' .kept) 0 0 (omega arith)) ∙ ap (λ z. getD z 0 0) (plan .1 ∙ kept-four x (k' .withdrawn) (forced x y (k' .withdrawn) leaves g (plan .0))) in
+    done .after ∙ ap (λ z. ofOne (one posts (frames + 1)) (x - z) p (s + z) d) four
 
 -- A for a queue of 6, and for one of 5
 six : Greatest 1 (wholeFrame 1 4) (6 ∷ []) (2 ∷ [])
@@ -126,70 +112,64 @@ four-slots = record {
       rw (ei, ej) refl;
 }
 
+-- what a frame reports that sends four
+abbrev sendsFour : (refused : ℕ) → Report
+sendsFour refused = record { kept = 4; refused = refused; reconfigurations = 0 }
+
 -- a frame that sends four of x
-sends-four : (x y posts frames p s d k a b₀ b₁ b₂ b₃ : ℕ) →
-    frameVerdict (one posts frames) (x ∷ []) (p ∷ []) (s ∷ []) (d ∷ []) 1 1 4 ≡ Accepted → x - y ≡ 4 → y ≡ x - 4 → Greatest 1 (wholeFrame 1 4) (x ∷ []) (y ∷ []) →
-    FrameCall (k ∷ []) (a ∷ []) (b₀ ∷ b₁ ∷ b₂ ∷ b₃ ∷ []) (4 ∷ []) (y ∷ []) (0 ∷ 0 ∷ 0 ∷ 0 ∷ [])
-    (held (one posts frames) (x ∷ []) (p ∷ []) (s ∷ []) (d ∷ [])) (held (one posts (frames + 1)) ((x - 4) ∷ []) (p ∷ []) ((s + 4) ∷ []) (d ∷ [])) (Planned 4 y 0)
-unfolding frameRun written tab total sumTo cell reconfigurations differ someBelow
-sends-four x y posts frames p s d k a b₀ b₁ b₂ b₃ accepted leaves takes g = record {
-  tables = record {
-    answer = sym accepted;
-    notice = ap noticeOf (sym accepted) ∙ frame-notice (one posts frames) (x ∷ []) (p ∷ []) (s ∷ []) (d ∷ []) 1 1 4;
-    accepted = λ _. record {
+sends-four : (x y posts frames p s d k a : ℕ) → frameVerdict (ofOne (one posts frames) x p s d) 1 1 4 ≡ Accepted → x - y ≡ 4 → y ≡ x - 4 →
+    Greatest 1 (wholeFrame 1 4) (x ∷ []) (y ∷ []) →
+    Framed (smallest k a) (smallest 4 y) (ofOne (one posts frames) x p s d) (ofOne (one posts (frames + 1)) (x - 4) p (s + 4) d) (Planned (sendsFour y))
+unfolding served more written tab total sumTo cell reconfigurations differ someBelow
+sends-four x y posts frames p s d k a accepted leaves takes g =
+    promise-done (sym accepted) (frame-notice (ofOne (one posts frames) x p s d) 1 1 4) _ _ refl (record {
       plan = record {
-        fair = λ e. absurd (omega arith);
-        least = λ _. (g, sym (kept-four x (y ∷ []) (forced x y (y ∷ []) leaves g g)));
-        carried = four-slots;
+        wrote = record {
+          plan = record {
+            fair = λ e. absurd (omega arith);
+            least = λ _. (g, sym (kept-four x (y ∷ []) (forced x y (y ∷ []) leaves g g)));
+            carried = four-slots;
+          };
+          kept-length = refl;
+          withdrawn-length = refl;
+          schedule-length = refl;
+          kept-rest = refl;
+          withdrawn-rest = refl;
+          schedule-rest = refl;
+        };
+        figures = record { kept-total = refl; refused-total = omega arith; reconfigured = refl };
       };
-      kept-length = refl;
-      withdrawn-length = refl;
-      schedule-length = refl;
-      kept-rest = refl;
-      withdrawn-rest = refl;
-      schedule-rest = refl;
-      kept-total = refl;
-      refused-total = omega arith;
-      reconfigured = refl;
-    };
-    now-waiting = λ _. refl;
-    now-sent = λ _. refl;
-    refused = λ q e. let z : _≡_ {A = ℕ} 0 1 = cc in absurd (omega arith);
-  };
-  record' = refl;
-  same-posted = refl;
-  same-dropped = refl;
-}
+      after = refl;
+    })
 
 pub one-node : RunLine 10 3 13 8 4 1
-unfolding freshVerdict freshNotice freshRun cleared postVerdict postNotice check postRun postPosted postDropped postWaiting frameVerdict refuse firstDisagreeing booksAgree firstBelow firstFrom firstAbove written tab
+unfolding freshVerdict freshNotice postVerdict postNotice check frameVerdict rangesVerdict settingsVerdict ruleVerdict sizesVerdict demandShortVerdict demandAboveVerdict heldShortVerdict lentShortVerdict agreementVerdict countVerdict then refuse
+    firstDisagreeing booksAgree firstBelow firstFrom firstAbove zeroed more overflowed queued written tab
 one-node = record {
-  ends = λ h₀ h₁ h₂ h₃ h₄ h₅ v₀ v₁ v₂ r₁ r₂ old w p s d begins k₁ a₁ s₁ k₁' a₁' s₁' k₂ a₂ s₂ k₂' a₂' s₂' hk₁ ha₁ hs₁ hk₂ ha₂ hs₂ fresh post₁ frame₁ post₂ frame₂.
-      let e₁ = fresh-step old w p s d h₀ h₁ v₀ begins fresh in
-      let e₂ = post-step 10 0 0 0 0 0 0 h₁ h₂ v₁ e₁ refl post₁ in
-      let e₃ = frame-step 6 2 1 0 10 0 4 h₂ h₃ r₁ k₁ a₁ s₁ k₁' a₁' s₁' e₂ (frame-accepted 6 1 0 10 0 4 k₁ a₁ s₁ hk₁ ha₁ hs₁ refl) refl six frame₁ in
-      let e₄ = post-step 3 1 1 2 10 4 4 h₃ h₄ v₂ e₃ refl post₂ in
-      let e₅ = frame-step 5 1 2 1 13 4 4 h₄ h₅ r₂ k₂ a₂ s₂ k₂' a₂' s₂' e₄ (frame-accepted 5 2 1 13 4 4 k₂ a₂ s₂ hk₂ ha₂ hs₂ refl) refl five frame₂ in
+  ends = λ old w p s d k₁ k₁' k₂ k₂' h₁ h₂ h₃ h₄ h₅ v₀ v₁ v₂ r₁ r₂ room₁ room₂ run.
+      let e₁ = fresh-step old w p s d h₁ v₀ (run .fresh) in
+      let e₂ = post-step 10 0 0 0 0 0 0 h₁ h₂ v₁ e₁ refl (run .first-post) in
+      let e₃ = frame-step 6 2 1 0 10 0 4 h₂ h₃ r₁ k₁ k₁' e₂ room₁ refl refl six (run .first-frame) in
+      let e₄ = post-step 3 1 1 2 10 4 4 h₃ h₄ v₂ e₃ refl (run .second-post) in
+      let e₅ = frame-step 5 1 2 1 13 4 4 h₄ h₅ r₂ k₂ k₂' e₄ room₂ refl refl five (run .second-frame) in
       (ap (λ h. h .posted) e₅, ap (λ h. h .sent) e₅, ap (λ h. h .dropped) e₅, ap (λ h. h .waiting) e₅);
   plays = λ old w p s d. (
-    held (one 0 0) (0 ∷ []) (0 ∷ []) (0 ∷ []) (0 ∷ []),
-    held (one 1 0) (6 ∷ []) (10 ∷ []) (0 ∷ []) (4 ∷ []),
-    held (one 1 1) (2 ∷ []) (10 ∷ []) (4 ∷ []) (4 ∷ []),
-    held (one 2 1) (5 ∷ []) (13 ∷ []) (4 ∷ []) (4 ∷ []),
-    held (one 2 2) (1 ∷ []) (13 ∷ []) (8 ∷ []) (4 ∷ []),
-    Planned 4 2 0,
-    Planned 4 1 0,
-    4 ∷ [],
-    2 ∷ [],
-    0 ∷ 0 ∷ 0 ∷ 0 ∷ [],
-    4 ∷ [],
-    1 ∷ [],
-    0 ∷ 0 ∷ 0 ∷ 0 ∷ [],
-    record { tables = record { answer = refl; notice = refl; now-waiting = refl; now-posted = refl; now-sent = refl; now-dropped = refl }; record' = refl },
-    record { tables = record { answer = refl; notice = refl; now-waiting = refl; now-posted = refl; now-dropped = refl }; record' = refl; same-sent = refl },
-    sends-four 6 2 1 0 10 0 4 0 0 0 0 0 0 refl refl refl six,
-    record { tables = record { answer = refl; notice = refl; now-waiting = refl; now-posted = refl; now-dropped = refl }; record' = refl; same-sent = refl },
-    sends-four 5 1 2 1 13 4 4 4 2 0 0 0 0 refl refl refl five,
+    ofOne (one 0 0) 0 0 0 0,
+    ofOne (one 1 0) 6 10 0 4,
+    ofOne (one 1 1) 2 10 4 4,
+    ofOne (one 2 1) 5 13 4 4,
+    ofOne (one 2 2) 1 13 8 4,
+    smallest 4 2,
+    smallest 4 1,
+    Planned (sendsFour 2),
+    Planned (sendsFour 1),
+    record {
+      fresh = promise-done refl refl _ _ refl refl;
+      first-post = promise-done refl refl _ _ refl refl;
+      first-frame = sends-four 6 2 1 0 10 0 4 0 0 refl refl refl six;
+      second-post = promise-done refl refl _ _ refl refl;
+      second-frame = sends-four 5 1 2 1 13 4 4 4 2 refl refl refl five;
+    },
     refl,
     refl,
   );

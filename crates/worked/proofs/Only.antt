@@ -1,5 +1,5 @@
 -- Where A is the only greatest withdrawn matrix, by a bound for each cell that computes. A cell is at most D and at most the excess of its row and of
--- its column; and the total and that cell once more are at most both excesses and what the cells off both lines have room for, as its row and its
+-- its column; and the total and that cell once more are at most both excesses and the most of the cells off both lines, as its row and its
 -- column count it twice. Where no bound is above A, a greatest matrix is nowhere above A and has A's total: it is A. Assumes nothing.
 use Prim.Native.Nat.{ℕ, _+_, _-_, _≤_, _<_, min}
 use native.Mathlib.Omega.{arith}
@@ -56,40 +56,40 @@ same-cells n a b below e i j p q =
 -- ---- the bound of a cell
 module _ (n : ℕ) (cap d : List ℕ) where
   -- D at a pair, or the excess of its row or its column where that is less
-  unfoldable pub room : (i j : ℕ) → ℕ
-  room i j = min (cell n d i j) (min (excess n cap d i) (excess n cap d (n + j)))
+  unfoldable pub atMost : (i j : ℕ) → ℕ
+  atMost i j = min (cell n d i j) (min (excess n cap d i) (excess n cap d (n + j)))
 
-  -- what the cells off row i and off column j have room for
+  -- the most of the cells off row i and off column j
   unfoldable pub offBoth : (i j : ℕ) → ℕ
-  offBoth i j = without n i (λ u. without n j (room u))
+  offBoth i j = without n i (λ u. without n j (atMost u))
 
   -- the bound of a cell in a withdrawn matrix with a total of at least `most`
   unfoldable pub bound : (most i j : ℕ) → ℕ
-  bound most i j = min (room i j) (excess n cap d i + excess n cap d (n + j) + offBoth i j - most)
+  bound most i j = min (atMost i j) (excess n cap d i + excess n cap d (n + j) + offBoth i j - most)
 
   module _ (b : List ℕ) (w : Withdrawn n cap d b) where
-    in-room : (i j : ℕ) → i < n → j < n → cell n b i j ≤ room i j
-    unfolding room
-    in-room i j p q =
+    cell-at-most : (i j : ℕ) → i < n → j < n → cell n b i j ≤ atMost i j
+    unfolding atMost
+    cell-at-most i j p q =
         omega (arith, w .below i j p q, cell-in-row n b i j p q, w .lines i (omega arith), cell-in-column n b i j p, w .lines (n + j) (omega arith))
 
-    -- a row is at most its cell in column j and the room of its other cells
-    row-apart : (j u : ℕ) → j < n → u < n → sumTo n (λ v. cell n b u v) ≤ cell n b u j + without n j (room u)
-    row-apart j u q p = omega (arith, one-apart n j (λ v. cell n b u v) q, without-mono n j (λ v. cell n b u v) (room u) (λ v. in-room u v p))
+    -- a row is at most its cell in column j and the most of its other cells
+    row-apart : (j u : ℕ) → j < n → u < n → sumTo n (λ v. cell n b u v) ≤ cell n b u j + without n j (atMost u)
+    row-apart j u q p = omega (arith, one-apart n j (λ v. cell n b u v) q, without-mono n j (λ v. cell n b u v) (atMost u) (λ v. cell-at-most u v p))
 
     -- row i whole, and every other row as above: its cells in column j are that column but for cell (i,j)
     counted-twice : (i j : ℕ) → i < n → j < n → total n b + cell n b i j ≤ excess n cap d i + excess n cap d (n + j) + offBoth i j
     unfolding total offBoth
     counted-twice i j p q =
         let rows = one-apart n i (λ u. sumTo n (λ v. cell n b u v)) p in
-        let others = without-mono n i (λ u. sumTo n (λ v. cell n b u v)) (λ u. cell n b u j + without n j (room u)) (λ u. row-apart j u q) in
-        let parts = without-add n i (λ u. cell n b u j) (λ u. without n j (room u)) in
+        let others = without-mono n i (λ u. sumTo n (λ v. cell n b u v)) (λ u. cell n b u j + without n j (atMost u)) (λ u. row-apart j u q) in
+        let parts = without-add n i (λ u. cell n b u j) (λ u. without n j (atMost u)) in
         let column = one-apart n i (λ u. cell n b u j) p in
         omega (arith, rows, others, parts, column, row-sum n b i p, column-sum n b j, w .lines i (omega arith), w .lines (n + j) (omega arith))
 
     bounded : (most : ℕ) → most ≤ total n b → (i j : ℕ) → i < n → j < n → cell n b i j ≤ bound most i j
     unfolding bound
-    bounded most e i j p q = omega (arith, in-room i j p q, counted-twice i j p q)
+    bounded most e i j p q = omega (arith, cell-at-most i j p q, counted-twice i j p q)
 
   -- no bound is above A, as a test: of one row, and of all
   unfoldable pub rowOnly? : (a : List ℕ) (i : ℕ) → Bool
@@ -115,7 +115,7 @@ pub only-line : {n l : ℕ} {d a kept : List ℕ} {refused : ℕ} → LeastLine 
 only-line {n = n} {l = l} {d = d} {a = a} line e = record {
   line = line;
   only = λ b h. only-greatest n (wholeFrame n l) d a b e (line .withdraws) h;
-  plans = λ k w s plan.
+  plans = λ k plan.
       let (greatest, keeps) = plan .least refl in
-      keeps ∙ kept-ext n (wholeFrame n l) d d (λ i j p q. refl) w a (only-greatest n (wholeFrame n l) d a w e (line .withdraws) greatest) ∙ line .keeps;
+      keeps ∙ kept-ext n (wholeFrame n l) d d (λ i j p q. refl) (k .withdrawn) a (only-greatest n (wholeFrame n l) d a (k .withdrawn) e (line .withdraws) greatest) ∙ line .keeps;
 }

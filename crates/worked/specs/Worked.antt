@@ -2,18 +2,20 @@
 use Prim.Native.Nat.{ℕ, _-_, _*_, _≤_, _<_}
 use mathlib.Core.Path.{_≡_}
 use mathlib.Core.List.{List, [], _∷_}
-use lib.ListN.{length, take, replicate}
+use lib.ListN.{take, replicate}
 use Rattle.sums.specs.Tables.{cell}
 use Rattle.star.specs.declared.refusals.Verdict.{Verdict}
 use Rattle.star.specs.declared.refusals.Verdict.the-variants.{Accepted}
 use Rattle.star.specs.Lines.{total, wholeFrame}
+use Rattle.star.specs.Checks.{Sizes}
 use Rattle.star.specs.Schedules.{reconfigurations}
 use Rattle.fair.specs.Fair.{fairKept}
 use Rattle.least.specs.Least.{Greatest, keptFrom}
 use Rattle.planner.specs.declared.answers.Answer.{Answer}
-use Rattle.planner.specs.Plans.{Plan, verdictOf}
+use Rattle.planner.specs.Plans.{verdictOf, Lent, lent, LentRoom, Plan}
 use Rattle.calls.specs.declared.record.Run.{Run}
-use Rattle.run.specs.Held.{Held, FreshCall, PostCall, FrameCall}
+use Rattle.calls.specs.Held.{Held, held}
+use Rattle.calls.specs.Runs.{Freshened, Posted, Framed}
 
 -- a line under rule 0: what is kept, and the refused total
 pub record FairLine (n l : ℕ) (d kept : List ℕ) (refused : ℕ) : Type 0 where
@@ -30,37 +32,37 @@ pub record LeastLine (n l : ℕ) (d a kept : List ℕ) (refused : ℕ) : Type 0 
 pub record OnlyLeastLine (n l : ℕ) (d a kept : List ℕ) (refused : ℕ) : Type 0 where
   pub line : LeastLine n l d a kept refused
   pub only : (b : List ℕ) → Greatest n (wholeFrame n l) d b → (i j : ℕ) → i < n → j < n → cell n b i j ≡ cell n a i j
-  pub plans : (kept' withdrawn' schedule' : List ℕ) → Plan n l 1 (wholeFrame n l) d kept' withdrawn' schedule' → take (n * n) kept' ≡ kept
+  pub plans : (k : Lent) → Plan n l 1 (wholeFrame n l) d k → take (n * n) (k .kept) ≡ kept
 
 -- what every plan of a demand of nothing is, and that there is one
 pub record NothingAsked (n l rule : ℕ) (d : List ℕ) : Type 0 where
-  pub keeps : (kept withdrawn schedule : List ℕ) → Plan n l rule (wholeFrame n l) d kept withdrawn schedule → (i j : ℕ) → i < n → j < n → cell n kept i j ≡ 0
-  pub idles : (kept withdrawn schedule : List ℕ) → Plan n l rule (wholeFrame n l) d kept withdrawn schedule → (k j : ℕ) → k < l → j < n → cell n schedule k j ≡ 255
-  pub stays : (kept withdrawn schedule : List ℕ) → Plan n l rule (wholeFrame n l) d kept withdrawn schedule → reconfigurations n l schedule ≡ 0
-  pub planned : Plan n l rule (wholeFrame n l) d (replicate (n * n) 0) (replicate (n * n) 0) (replicate (l * n) 255)
+  pub keeps : (k : Lent) → Plan n l rule (wholeFrame n l) d k → (i j : ℕ) → i < n → j < n → cell n (k .kept) i j ≡ 0
+  pub idles : (k : Lent) → Plan n l rule (wholeFrame n l) d k → (m j : ℕ) → m < l → j < n → cell n (k .schedule) m j ≡ 255
+  pub stays : (k : Lent) → Plan n l rule (wholeFrame n l) d k → reconfigurations n l (k .schedule) ≡ 0
+  pub planned : Plan n l rule (wholeFrame n l) d (lent (replicate (n * n) 0) (replicate (n * n) 0) (replicate (l * n) 255))
 
--- what is held at the start of the run of one node: any record, and any numbers in the one cell of each table
-abbrev pub start : (old : Run) (waiting posted sent dropped : ℕ) → Held
-start old waiting posted sent dropped = record { run = old; waiting = waiting ∷ []; posted = posted ∷ []; sent = sent ∷ []; dropped = dropped ∷ [] }
+-- what is held of one node: a record, and the one cell of each table
+abbrev pub ofOne : (run : Run) (waiting posted sent dropped : ℕ) → Held
+ofOne run waiting posted sent dropped = held run (waiting ∷ []) (posted ∷ []) (sent ∷ []) (dropped ∷ [])
 
--- a run of one node with L 4, B 6 and rule 1: fresh, post, frame, post, frame, each frame with any tables that are long enough
+-- a run of one node with L 4, B 6 and rule 1: fresh, post, frame, post, frame, where each call finds what the one before it left
+pub record OneNode (first second : ℕ) (k₁ k₁' k₂ k₂' : Lent) (h₀ h₁ h₂ h₃ h₄ h₅ : Held) (v₀ v₁ v₂ : Verdict) (r₁ r₂ : Answer) : Type 0 where
+  pub fresh : Freshened 1 4 6 1 h₀ h₁ v₀
+  pub first-post : Posted (first ∷ []) h₁ h₂ v₁
+  pub first-frame : Framed k₁ k₁' h₂ h₃ r₁
+  pub second-post : Posted (second ∷ []) h₃ h₄ v₂
+  pub second-frame : Framed k₂ k₂' h₄ h₅ r₂
+
+-- such a run from any record, and any numbers in the one cell of each table
 pub record RunLine (first second posted sent dropped waiting : ℕ) : Type 0 where
-  -- however A and the slots are chosen, the four tables end so
-  pub ends : (h₀ h₁ h₂ h₃ h₄ h₅ : Held) (v₀ v₁ v₂ : Verdict) (r₁ r₂ : Answer) (old : Run) (w p s d : ℕ) → h₀ ≡ start old w p s d →
-      (k₁ a₁ s₁ k₁' a₁' s₁' k₂ a₂ s₂ k₂' a₂' s₂' : List ℕ) →
-      1 ≤ length k₁ → 1 ≤ length a₁ → 4 ≤ length s₁ → 1 ≤ length k₂ → 1 ≤ length a₂ → 4 ≤ length s₂ →
-      FreshCall 1 4 6 1 h₀ h₁ v₀ → PostCall (first ∷ []) h₁ h₂ v₁ → FrameCall k₁ a₁ s₁ k₁' a₁' s₁' h₂ h₃ r₁ →
-      PostCall (second ∷ []) h₃ h₄ v₂ → FrameCall k₂ a₂ s₂ k₂' a₂' s₂' h₄ h₅ r₂ →
+  -- however A and the slots are chosen, and whatever tables the frames are lent that are long enough, the four tables end so, ..
+  pub ends : (old : Run) (w p s d : ℕ) (k₁ k₁' k₂ k₂' : Lent) (h₁ h₂ h₃ h₄ h₅ : Held) (v₀ v₁ v₂ : Verdict) (r₁ r₂ : Answer) → LentRoom 1 4 k₁ → LentRoom 1 4 k₂ →
+      OneNode first second k₁ k₁' k₂ k₂' (ofOne old w p s d) h₁ h₂ h₃ h₄ h₅ v₀ v₁ v₂ r₁ r₂ →
       (h₅ .posted ≡ posted ∷ []) × (h₅ .sent ≡ sent ∷ []) × (h₅ .dropped ≡ dropped ∷ []) × (h₅ .waiting ≡ waiting ∷ [])
-  -- and there is such a run, in which every call is accepted
+  -- .. and there is such a run, in which every call is accepted and both frames are lent the same tables
   pub plays : (old : Run) (w p s d : ℕ) →
-      (h₁ : Held) × (h₂ : Held) × (h₃ : Held) × (h₄ : Held) × (h₅ : Held) × (r₁ : Answer) × (r₂ : Answer)
-      × (k₁ : List ℕ) × (a₁ : List ℕ) × (s₁ : List ℕ) × (k₂ : List ℕ) × (a₂ : List ℕ) × (s₂ : List ℕ)
-      × FreshCall 1 4 6 1 (start old w p s d) h₁ Accepted
-      × PostCall (first ∷ []) h₁ h₂ Accepted
-      × FrameCall (0 ∷ []) (0 ∷ []) (0 ∷ 0 ∷ 0 ∷ 0 ∷ []) k₁ a₁ s₁ h₂ h₃ r₁
-      × PostCall (second ∷ []) h₃ h₄ Accepted
-      × FrameCall k₁ a₁ s₁ k₂ a₂ s₂ h₄ h₅ r₂
+      (h₁ : Held) × (h₂ : Held) × (h₃ : Held) × (h₄ : Held) × (h₅ : Held) × (k₁ : Lent) × (k₂ : Lent) × (r₁ : Answer) × (r₂ : Answer)
+      × OneNode first second (lent (0 ∷ []) (0 ∷ []) (0 ∷ 0 ∷ 0 ∷ 0 ∷ [])) k₁ k₁ k₂ (ofOne old w p s d) h₁ h₂ h₃ h₄ h₅ Accepted Accepted Accepted r₁ r₂
       × (verdictOf r₁ ≡ Accepted) × (verdictOf r₂ ≡ Accepted)
 
 -- the fourteen lines
@@ -93,6 +95,6 @@ pub record WorkedLines : Type 0 where
   -- l* N 1, L 1,024, D 65,535, rule 1: refused 64,511.
   pub l : OnlyLeastLine 1 1024 (65535 ∷ []) (64511 ∷ []) (1024 ∷ []) 64511
   -- m* All demands 0: kept 0, every schedule byte 255, reconfigurations 0. (Every N and L in range, both rules.)
-  pub m : (n l rule : ℕ) (d : List ℕ) → 1 ≤ n → n ≤ 64 → 1 ≤ l → l ≤ 1024 → rule ≤ 1 → ((i j : ℕ) → i < n → j < n → cell n d i j ≡ 0) → NothingAsked n l rule d
+  pub m : (n l rule : ℕ) (d : List ℕ) → Sizes n l → rule ≤ 1 → ((i j : ℕ) → i < n → j < n → cell n d i j ≡ 0) → NothingAsked n l rule d
   -- n* N 1, L 4, B 6, rule 1: post 10, frame, post 3, frame. Posted 13, sent 8, dropped 4, waiting 1.
   pub n : RunLine 10 3 13 8 4 1

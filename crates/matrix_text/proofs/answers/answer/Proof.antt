@@ -1,6 +1,6 @@
 -- `answer` prints the outcome of the input: by the cases of its length and of what is read. Assumes nothing.
-use Rattle.matrix_text.proofs.OutcomeLaws.{answered-long, answered-junk, answered-list}
 use borrow.Author.Needs.{needs}
+use Rattle.matrix_text.proofs.OutcomeLaws.{answered-long, answered-junk, answered-list}
 use Rattle.matrix_text.proofs.answers.answer.Statement.{statement}
 use Rattle.matrix_text.proofs.answers.answer.Tie as tie
 

@@ -1,8 +1,8 @@
 -- `put_answer` prints what is printed of each answer of `plan`: by the cases of the answer. Assumes nothing.
-use Rattle.planner.specs.Plans.{verdictOf}
 use mathlib.Core.Path.{ap}
-use Rattle.matrix_text.specs.Writes.{answerText}
 use borrow.Author.Needs.{needs}
+use Rattle.planner.specs.Plans.{verdictOf}
+use Rattle.matrix_text.specs.Writes.{answerText}
 use Rattle.matrix_text.proofs.answers.put_answer.Statement.{statement}
 use Rattle.matrix_text.proofs.answers.put_answer.Tie as tie
 

@@ -1,11 +1,11 @@
 -- `put_judged` prints what the order of document 01 asks for: fewer than three numbers are bad input, and else it is what is printed of plan's answer, since the table stores all demands where their count is right. Assumes nothing.
-use lib.ListN.{getD, length-replicate}
 use Prim.Native.Nat.{ℕ}
-use mathlib.Core.Path.{refl, _∙_}
+use mathlib.Core.Path.{refl}
+use lib.ListN.{getD, length-replicate}
+use borrow.Author.Needs.{needs}
 use Rattle.pieces.specs.Text.{badInput}
 use Rattle.matrix_text.specs.Writes.{answerText}
 use Rattle.matrix_text.proofs.OutcomeLaws.{few-print, printable, stored-prints}
-use borrow.Author.Needs.{needs}
 use Rattle.matrix_text.proofs.answers.put_judged.Statement.{statement}
 use Rattle.matrix_text.proofs.answers.put_judged.Tie as tie
 
@@ -27,8 +27,8 @@ shared-slice-read-slots c = search needs
 shared-slice-read-rule : tie.Need-shared-slice-read-rule
 shared-slice-read-rule c = search needs
 
-smaller-requires : tie.Need-smaller-requires
-smaller-requires c κs = search needs
+stored-requires : tie.Need-stored-requires
+stored-requires c κs = search needs
 
 sub-plan : tie.Need-sub-plan
 sub-plan c = search needs
@@ -58,7 +58,7 @@ slice-aggregate-put-answer : tie.Need-slice-aggregate-put-answer
 slice-aggregate-put-answer c = search needs
 
 put-answer-requires : tie.Need-put-answer-requires
-put-answer-requires c κs = (c .before .before .before .before .before .before .before .before .before .before .before .before .before .before .before .before .before .before .pre .0, printable (c .before .before .before .before .before .before .plan .ensures) (c .before .before .before .before .before .before .plan .kept .1 .1 .1 .1 .0 ∙ length-replicate {A = ℕ} 4096 0))
+put-answer-requires c κs = (c .before .before .before .before .before .before .before .before .before .before .before .before .before .before .before .before .before .before .pre .0, printable _ (c .before .before .before .before .before .before .plan .ensures))
 
 same-length-2 : tie.Need-same-length-2
 same-length-2 c = search needs
@@ -67,7 +67,7 @@ returns-2 : tie.Need-returns-2
 returns-2 c = let table = c .before .before .before .before .before .before .before .before .before .before .before .before .before .before .before .before .before .before .before .before .before .args .table .now in
     record {
       text = answerText (c .before .before .before .before .is-whole .result) (getD table 0 0) (getD table 1 0) (getD table 2 0) (c .before .before .before .before .before .before .before .before .before .plan .last .1 .1 .1 .1 .0) (c .before .before .before .before .before .before .before .before .before .plan .result);
-      prints = λ numbers s. rw (c .before .before .before .before .is-whole .ensures) (stored-prints table numbers (c .before .before .before .before .before .before .before .before .before .before .before .before .before .before .before .before .before .before .before .before .before .args .count) (c .before .before .before .before .before .before .before .before .before .before .before .before .before .before .smaller .result) (c .before .before .before .before .before .before .before .before .before .before .before .before .before .before .before .before .before .before .before .before .before .pre .1) (c .before .before .before .before .before .before .before .before .before .before .before .before .before .before .before .before .before .before .if1 .left) (c .before .before .before .before .before .before .before .before .before .before .before .before .before .before .smaller .ensures) s (c .before .before .before .before .before .before .before .before .before .plan .ensures) refl refl refl (length-replicate {A = ℕ} 4096 0) (length-replicate {A = ℕ} 4096 0) (length-replicate {A = ℕ} 65536 0));
+      prints = λ numbers s. rw (c .before .before .before .before .is-whole .ensures) (stored-prints table numbers (c .before .before .before .before .before .before .before .before .before .before .before .before .before .before .before .before .before .before .before .before .before .args .count) (c .before .before .before .before .before .before .before .before .before .before .before .before .before .before .stored .result) (c .before .before .before .before .before .before .before .before .before .before .before .before .before .before .before .before .before .before .before .before .before .pre .1) (c .before .before .before .before .before .before .before .before .before .before .before .before .before .before .before .before .before .before .if1 .left) (c .before .before .before .before .before .before .before .before .before .before .before .before .before .before .stored .ensures) s (c .before .before .before .before .before .before .before .before .before .plan .result) (c .before .before .before .before .before .before .before .before .before .plan .ensures) refl refl refl (length-replicate {A = ℕ} 4096 0) (length-replicate {A = ℕ} 4096 0) (length-replicate {A = ℕ} 65536 0));
       wrote = c .before .before .put-answer .ensures;
     }
 
@@ -81,7 +81,7 @@ put-judged-spec =
     shared-slice-read-nodes
     shared-slice-read-slots
     shared-slice-read-rule
-    smaller-requires
+    stored-requires
     sub-plan
     part-plan-start
     part-plan-end

@@ -3,11 +3,11 @@ use native.Mathlib.Omega.{arith}
 use mathlib.Core.Path.{_≡_, _∙_, ap₂, sym}
 use mathlib.Core.Logic.{⊎-elim}
 use borrow.Author.Tests.{not-true, not-false}
+use borrow.Author.Needs.{needs}
 use Rattle.star.specs.Refusals.{refusalNumber, refusalPlace}
 use Rattle.pieces.specs.Text.{refusalText}
 use Rattle.matrix_text.specs.Writes.{refusedText}
 use Rattle.matrix_text.proofs.OutcomeLaws.{refused-early, refused-whole, refused-late}
-use borrow.Author.Needs.{needs}
 use Rattle.matrix_text.proofs.answers.put_refused.Statement.{statement}
 use Rattle.matrix_text.proofs.answers.put_refused.Tie as tie
 

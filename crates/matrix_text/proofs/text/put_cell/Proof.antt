@@ -1,6 +1,6 @@
 -- `put_cell` appends a number and the byte after it, which are the cell's and the destination's. Assumes nothing.
-use Rattle.matrix_text.specs.Text.{cellText}
 use borrow.Author.Needs.{needs}
+use Rattle.matrix_text.specs.Text.{cellText}
 use Rattle.matrix_text.proofs.text.put_cell.Statement.{statement}
 use Rattle.matrix_text.proofs.text.put_cell.Tie as tie
 

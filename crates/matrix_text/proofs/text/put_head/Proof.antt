@@ -1,10 +1,10 @@
 -- `put_head` appends line 1, piece by piece. Assumes nothing.
-use mathlib.Core.Path.{_∙_}
 use native.Mathlib.Omega.{arith}
+use mathlib.Core.Path.{_∙_}
 use lib.ListN.{length-append}
+use borrow.Author.Needs.{needs}
 use Rattle.pieces.proofs.PieceLaws.{appended-more}
 use Rattle.matrix_text.specs.Text.{headText}
-use borrow.Author.Needs.{needs}
 use Rattle.matrix_text.proofs.text.put_head.Statement.{statement}
 use Rattle.matrix_text.proofs.text.put_head.Tie as tie
 

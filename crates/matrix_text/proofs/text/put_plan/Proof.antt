@@ -1,16 +1,16 @@
 -- `put_plan` appends a plan, line by line; it fits, since there are at most 64 lines of 64 numbers with at most ten digits. Assumes nothing.
 use Prim.Native.Nat.{_≤_}
-use mathlib.Core.Path.{_∙_}
 use native.Mathlib.Omega.{arith}
+use mathlib.Core.Path.{_∙_}
 use lib.ListN.{length, length-append}
 use Rattle.pieces.proofs.PieceLaws.{appended-more}
-use Rattle.matrix_text.specs.Text.{planText, room}
+use Rattle.matrix_text.specs.Text.{planText, longestText}
 use Rattle.matrix_text.proofs.TextLaws.{plan-fits}
 use Rattle.matrix_text.proofs.text.put_plan.Statement.{statement}
 use Rattle.matrix_text.proofs.text.put_plan.Tie as tie
 
 -- the text fits
-fits : (c : tie.After-shared-slice-known) → length (planText (c .before .before .args .nodes) (c .before .before .args .slots) (c .before .before .args .rule) (c .before .before .args .keeps) (c .before .before .args .refuses) (c .before .before .args .kept .now)) ≤ room
+fits : (c : tie.After-shared-slice-known) → length (planText (c .before .before .args .nodes) (c .before .before .args .slots) (c .before .before .args .rule) (c .before .before .args .keeps) (c .before .before .args .refuses) (c .before .before .args .kept .now)) ≤ longestText
 fits c = plan-fits (c .before .before .args .nodes) (c .before .before .args .kept .now) (λ p. omega (arith, c .shared-slice-known .given p)) (c .before .before .args .slots) (c .before .before .args .rule) (c .before .before .args .keeps) (c .before .before .args .refuses) (omega arith) (omega arith) (omega arith) (omega arith) (omega arith)
 
 put-head-requires : tie.Need-put-head-requires

@@ -1,7 +1,7 @@
 -- `put_rows` appends a line for each source. The loop's invariant: the lines of the sources passed are appended. The measure is the number of those left. Assumes nothing.
 use Prim.Native.Nat.{_≤_, _-_}
-use mathlib.Core.Path.{_≡_, _∙_, refl}
 use native.Mathlib.Omega.{arith}
+use mathlib.Core.Path.{_≡_, _∙_, refl}
 use lib.ListN.{length}
 use Rattle.pieces.specs.Pieces.{Appended, joinTo}
 use Rattle.pieces.proofs.PieceLaws.{appended-more, appended-none, join-none, join-more, join-part}
