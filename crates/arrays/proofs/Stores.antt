@@ -1,13 +1,13 @@
 -- Stores: what a store does to the places passed by a loop, and that lengths stay. The laws assume nothing.
-use mathlib.Core.Path.{_≡_, _∙_, sym, ap}
-use mathlib.Core.List.{List}
 use Prim.Native.Nat.{ℕ, _+_, _-_, _*_, _≤_, _<_}
 use native.Mathlib.Omega.{arith}
 use native.Mathlib.Nat.{mul-le-mul-right}
+use mathlib.Core.Path.{_≡_, _∙_, sym, ap}
+use mathlib.Core.List.{List}
 use lib.Arith.{digits-lt}
 use lib.ListN.{length, set, drop}
 use lib.Seq.{drop-set-lt, drop-drop}
-use Rattle.star.specs.Tables.{Square}
+use Rattle.star.specs.Rooms.{Square}
 use Rattle.arrays.specs.Arrays.{Frame, Slot}
 
 pub square-kept : {n : ℕ} (x y : List ℕ) → length y ≡ length x → Square n x → Square n y

@@ -2,7 +2,7 @@
 use star::tables::get;
 ghost use Prim.Native.Nat.{_<_, _≤_};
 ghost use lib.ListN.{length};
-ghost use Rattle.star.specs.Tables.{Square};
+ghost use Rattle.star.specs.Rooms.{Square};
 ghost use Rattle.at_least.specs.AtLeast.{AtLeast};
 ghost use Rattle.at_least.specs.Halves.{CanAdd, RowAdded, RowsAdded, HalvesJoined};
 

@@ -2,7 +2,8 @@
 use Prim.Native.Nat.{ℕ, _+_, _*_, _≤_, _<_, _^_}
 use mathlib.Core.List.{List}
 use lib.ListN.{getD}
-use Rattle.star.specs.Tables.{Square, Demands}
+use Rattle.star.specs.Tables.{Demands}
+use Rattle.star.specs.Rooms.{Square}
 
 -- each of a run's four tables has a cell for each pair
 pub record Tables (n : ℕ) (waiting posted sent dropped : List ℕ) : Type 0 where

@@ -2,7 +2,7 @@
 ghost use mathlib.Core.Path.{_≡_};
 ghost use Prim.Native.Nat.{_<_};
 ghost use Rattle.sums.specs.Tables.{cell};
-ghost use Rattle.star.specs.Tables.{Square};
+ghost use Rattle.star.specs.Rooms.{Square};
 ghost use Rattle.books.specs.Queues.{zeroed, more};
 ghost use Rattle.books.specs.Rooms.{Adds};
 

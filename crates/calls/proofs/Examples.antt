@@ -7,15 +7,14 @@ use Rattle.sums.specs.Searches.{firstBelow, firstFrom}
 use Rattle.sums.specs.Tables.{tab, written}
 use Rattle.star.specs.declared.refusals.Refusal.the-variants.{Rule}
 use Rattle.star.specs.declared.refusals.Verdict.the-variants.{Accepted, Refused}
-use Rattle.star.specs.Refusals.{Notice, notice, noticeOf, refuse, then, firstAbove}
-use Rattle.star.specs.Checks.{sizesVerdict, ruleVerdict, settingsVerdict, rangesVerdict, demandShortVerdict, demandAboveVerdict}
-use Rattle.planner.specs.Plans.{lentShortVerdict}
+use Rattle.star.specs.Refusals.{Notice, notice, noticeOf, firstAbove}
+use Rattle.star.specs.Checks.{sizesVerdict, ruleVerdict, settingsVerdict, rangesVerdict, demandShortVerdict, demandAboveVerdict, refuse, then}
+use Rattle.planner.specs.Checks.{lentShortVerdict}
 use Rattle.books.specs.Books.{booksAgree, firstDisagreeing}
 use Rattle.books.specs.Queues.{zeroed, more, overflowed, queued, served}
 use Rattle.calls.specs.declared.record.Run.{Run}
-use Rattle.calls.specs.Held.{Held, held, afterFresh, afterPost, afterFrame, recordAfter}
-use Rattle.calls.specs.Checks.{heldShortVerdict, agreementVerdict, countVerdict}
-use Rattle.calls.specs.Runs.{freshVerdict, postVerdict, frameVerdict}
+use Rattle.calls.specs.Held.{held, afterFresh, afterPost, afterFrame, recordAfter}
+use Rattle.calls.specs.Checks.{heldShortVerdict, agreementVerdict, countVerdict, freshVerdict, postVerdict, frameVerdict}
 
 -- the record with N, L, B, the rule and the two counts
 abbrev run : (nodes slots limit rule posts frames : ℕ) → Run

@@ -8,19 +8,22 @@ use lib.ListN.{length, getD}
 use Rattle.star.specs.declared.refusals.Refusal.{Refusal}
 use Rattle.star.specs.declared.refusals.Verdict.{Verdict}
 use Rattle.star.specs.declared.refusals.Verdict.the-variants.{Accepted, Refused}
-use Rattle.star.specs.Tables.{Square}
 use Rattle.star.specs.Lines.{wholeFrame}
+use Rattle.star.specs.Rooms.{Square}
 use Rattle.star.proofs.RefusalLaws.{promise-refused, promise-done}
 use Rattle.planner.specs.declared.answers.Report.{Report}
 use Rattle.planner.specs.declared.answers.Answer.{Answer}
 use Rattle.planner.specs.declared.answers.Answer.the-variants as answer
-use Rattle.planner.specs.Plans.{verdictOf, Lent, PlanDone, PlanRoom}
+use Rattle.planner.specs.Plans.{verdictOf, PlanDone}
+use Rattle.planner.specs.Lent.{Lent}
+use Rattle.planner.specs.Work.{PlanRoom}
 use Rattle.planner.proofs.PlanLaws.{whole-room, plan-below-at}
 use Rattle.books.specs.Queues.{zeroed, more, overflowed, queued, served}
 use Rattle.books.specs.Rooms.{Tables, Adds, Arrives, Drops, Takes}
 use Rattle.calls.specs.declared.record.Run.{Run}
-use Rattle.calls.specs.Held.{Held, held, freshRun, afterFresh, postRun, afterPost, frameRun, afterFrame, recordAfter}
-use Rattle.calls.specs.Runs.{freshVerdict, Freshened, postVerdict, Posted, frameVerdict, Framed}
+use Rattle.calls.specs.Held.{Held, held, freshRun, postRun, frameRun, recordAfter}
+use Rattle.calls.specs.Runs.{Freshened, Posted, Framed}
+use Rattle.calls.specs.Checks.{freshVerdict, postVerdict, frameVerdict}
 use Rattle.calls.proofs.Verdicts.{held-tables, fresh-accepted, fresh-notice, PostFits, post-accepted, post-notice, FrameFits, frame-accepted, frame-notice}
 
 -- ---- what is held, as one thing

@@ -8,19 +8,21 @@ use lib.ListN.{length, getD}
 use borrow.Author.Tests.{ltb-false, leb-false, le-ltb, lt-leb}
 use Rattle.sums.proofs.Searches.{first-ext}
 use Rattle.star.specs.declared.refusals.Verdict.the-variants.{Accepted}
-use Rattle.star.specs.Refusals.{noticeOf}
-use Rattle.star.specs.Checks.{demandShortVerdict, demandAboveVerdict, Ranges}
-use Rattle.star.specs.Tables.{Square, Demands, Alike}
+use Rattle.star.specs.Refusals.{noticeOf, Ranges}
+use Rattle.star.specs.Checks.{demandShortVerdict, demandAboveVerdict}
+use Rattle.star.specs.Tables.{Demands, Alike}
+use Rattle.star.specs.Rooms.{Square}
 use Rattle.star.proofs.RefusalLaws.{passes, in-numbers, passed, then-goes, then-passed, group-in-numbers, group-ends, ranges-in-numbers, either, neither, neither-of, ranges-fit, ranged, demand-fits, long-demand, demand-within, within}
 use Rattle.star.proofs.AlikeLaws.{alike-at, alike-above, both-long}
-use Rattle.planner.specs.Plans.{Lent, lentShortVerdict, LentRoom}
+use Rattle.planner.specs.Lent.{Lent, LentRoom}
+use Rattle.planner.specs.Checks.{lentShortVerdict}
 use Rattle.planner.proofs.PlanLaws.{lent-fits, long-lent}
 use Rattle.books.specs.Books.{booksAgree, firstDisagreeing}
 use Rattle.books.specs.Rooms.{Tables}
 use Rattle.books.proofs.Agreements.{Agree, agreeing, none-disagreeing}
-use Rattle.calls.specs.Held.{Held, LongEnough, HeldAlike}
-use Rattle.calls.specs.Checks.{heldShortVerdict, disagreeing, agreementVerdict, countVerdict}
-use Rattle.calls.specs.Runs.{freshVerdict, freshNotice, postVerdict, postNotice, frameVerdict, frameNotice}
+use Rattle.calls.specs.Held.{Held, LongEnough, HeldAlike, disagreeing}
+use Rattle.calls.specs.Checks.{heldShortVerdict, agreementVerdict, countVerdict, freshVerdict, postVerdict, frameVerdict}
+use Rattle.calls.specs.Runs.{freshNotice, postNotice, frameNotice}
 
 -- ---- 5
 pub held-fits : {n : ℕ} {h : Held} → LongEnough n h → Accepted ≡ heldShortVerdict n (length (h .waiting)) (length (h .posted)) (length (h .sent)) (length (h .dropped))

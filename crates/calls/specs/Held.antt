@@ -1,11 +1,14 @@
 -- What is held between the calls of a run, and what each call makes of it.
 use Prim.Native.Nat.{ℕ, _+_, _*_, _≤_}
 use mathlib.Core.Path.{_≡_}
+use mathlib.Core.Bool.{Bool, _||_}
 use mathlib.Core.List.{List}
 use lib.ListN.{length}
 use Rattle.star.specs.declared.refusals.Verdict.{Verdict}
 use Rattle.star.specs.declared.refusals.Verdict.the-variants.{Accepted, Refused}
+use Rattle.star.specs.Refusals.{short}
 use Rattle.star.specs.Tables.{Alike}
+use Rattle.books.specs.Books.{firstDisagreeing}
 use Rattle.books.specs.Queues.{zeroed, more, overflowed, queued, served}
 use Rattle.calls.specs.declared.record.Run.{Run}
 
@@ -26,6 +29,14 @@ pub record LongEnough (n : ℕ) (h : Held) : Type 0 where
   pub posted : n * n ≤ length (h .posted)
   pub sent : n * n ≤ length (h .sent)
   pub dropped : n * n ≤ length (h .dropped)
+
+-- any of a run's four tables too short, given how many cells each has
+abbrev pub heldShort : (n waiting posted sent dropped : ℕ) → Bool
+heldShort n waiting posted sent dropped = short waiting (n * n) || short posted (n * n) || short sent (n * n) || short dropped (n * n)
+
+-- the first pair in row order whose books disagree, or N×N
+abbrev pub disagreeing : (h : Held) → ℕ
+disagreeing h = firstDisagreeing (h .run .nodes) (h .run .limit) (h .run .posts) (h .waiting) (h .posted) (h .sent) (h .dropped)
 
 -- the records are the same, and the tables agree as far as they are needed
 pub record HeldAlike (n : ℕ) (h g : Held) : Type 0 where

@@ -5,22 +5,18 @@ use mathlib.Core.Bool.{_||_}
 use mathlib.Core.List.{List}
 use lib.ListN.{length}
 use Rattle.star.specs.declared.refusals.Verdict.{Verdict}
-use Rattle.star.specs.Refusals.{Notice, accepted, check, then, Promise, nodesOut, slotsOut, ruleOut, limitOut, short, spent, someCell, firstAbove}
+use Rattle.star.specs.Refusals.{Notice, accepted, check, Promise, nodesOut, slotsOut, ruleOut, limitOut, short, spent, someCell, firstAbove}
 use Rattle.star.specs.Lines.{wholeFrame}
-use Rattle.star.specs.Checks.{rangesVerdict, demandShortVerdict, demandAboveVerdict}
 use Rattle.planner.specs.declared.answers.Report.{Report}
 use Rattle.planner.specs.declared.answers.Answer.{Answer}
-use Rattle.planner.specs.Plans.{verdictOf, reportOf, Lent, lent, lentShort, lentShortVerdict, PlanDone}
+use Rattle.planner.specs.Plans.{verdictOf, reportOf, PlanDone}
+use Rattle.planner.specs.Lent.{Lent, lent, lentShort}
 use Rattle.calls.specs.declared.record.Run.{Run}
-use Rattle.calls.specs.Held.{Held, held, afterFresh, afterPost, afterFrame}
-use Rattle.calls.specs.Checks.{heldShort, heldShortVerdict, disagreeing, agreementVerdict, countVerdict}
+use Rattle.calls.specs.Held.{Held, held, afterFresh, afterPost, afterFrame, heldShort, disagreeing}
+use Rattle.calls.specs.Checks.{freshVerdict, postVerdict, frameVerdict}
 
 -- ---- fresh
--- Fresh 1, 2, 3, 7 | 5; the last four numbers say how many cells each table has.
-unfoldable pub freshVerdict : (n l limit rule waiting posted sent dropped : ℕ) → Verdict
-freshVerdict n l limit rule waiting posted sent dropped = then (rangesVerdict n l rule limit) (heldShortVerdict n waiting posted sent dropped)
-
--- the same in document 01's numbers, each with its place
+-- Fresh 1, 2, 3, 7, 5, in document 01's numbers and each with its place; the last four numbers say how many cells each table has.
 unfoldable pub freshNotice : (n l limit rule waiting posted sent dropped : ℕ) → Notice
 freshNotice n l limit rule waiting posted sent dropped =
     check (nodesOut n) 1 0
@@ -38,17 +34,7 @@ Freshened n l limit rule h h' v =
     h h' (h' ≡ afterFresh n l limit rule h)
 
 -- ---- post
--- Post and frame check and use the values in the record. Post 1, 2, 3, 7 | 4 | 5 | 8 | 9 | 6.
-unfoldable pub postVerdict : (arrivals : List ℕ) (h : Held) → Verdict
-postVerdict arrivals h =
-    then (rangesVerdict (h .run .nodes) (h .run .slots) (h .run .rule) (h .run .limit))
-    (then (demandShortVerdict (h .run .nodes) (length arrivals))
-    (then (heldShortVerdict (h .run .nodes) (length (h .waiting)) (length (h .posted)) (length (h .sent)) (length (h .dropped)))
-    (then (agreementVerdict h)
-    (then (countVerdict (h .run .posts))
-    (demandAboveVerdict (h .run .nodes) arrivals)))))
-
--- the same in document 01's numbers, each with its place
+-- Post and frame check and use the values in the record. Post 1, 2, 3, 7, 4, 5, 8, 9, 6.
 unfoldable pub postNotice : (arrivals : List ℕ) (h : Held) → Notice
 postNotice arrivals h =
     check (nodesOut (h .run .nodes)) 1 0
@@ -67,16 +53,7 @@ abbrev pub Posted : (arrivals : List ℕ) (h h' : Held) (v : Verdict) → Type 0
 Posted arrivals h h' v = Promise v (postVerdict arrivals h) (postNotice arrivals h) h h' (h' ≡ afterPost arrivals h)
 
 -- ---- frame
--- Frame 1, 2, 3, 7 | 5 | 5 | 8 | 9; the last three numbers say how many cells kept, withdrawn and schedule have.
-unfoldable pub frameVerdict : (h : Held) (kept withdrawn schedule : ℕ) → Verdict
-frameVerdict h kept withdrawn schedule =
-    then (rangesVerdict (h .run .nodes) (h .run .slots) (h .run .rule) (h .run .limit))
-    (then (heldShortVerdict (h .run .nodes) (length (h .waiting)) (length (h .posted)) (length (h .sent)) (length (h .dropped)))
-    (then (lentShortVerdict (h .run .nodes) (h .run .slots) kept withdrawn schedule)
-    (then (agreementVerdict h)
-    (countVerdict (h .run .frames)))))
-
--- the same in document 01's numbers, each with its place
+-- Frame 1, 2, 3, 7, 5, 8, 9; the last three numbers say how many cells kept, withdrawn and schedule have.
 unfoldable pub frameNotice : (h : Held) (kept withdrawn schedule : ℕ) → Notice
 frameNotice h kept withdrawn schedule =
     check (nodesOut (h .run .nodes)) 1 0

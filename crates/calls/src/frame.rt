@@ -14,7 +14,8 @@ ghost use mathlib.Core.Path.{_≡_};
 ghost use Prim.Native.Nat.{_<_};
 ghost use Rattle.planner.specs.Plans.{verdictOf};
 ghost use Rattle.calls.specs.Held.{held, frameRun, recordAfter};
-ghost use Rattle.calls.specs.Runs.{frameVerdict, FrameOn};
+ghost use Rattle.calls.specs.Runs.{FrameOn};
+ghost use Rattle.calls.specs.Checks.{frameVerdict};
 
 // Which refusal is given, if any; the last three numbers say how many cells kept, withdrawn and schedule have.
 fn frame_verdict(

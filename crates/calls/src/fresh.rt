@@ -7,7 +7,8 @@ use star::refusals::Verdict;
 use star::tables;
 ghost use mathlib.Core.Path.{_≡_};
 ghost use Rattle.calls.specs.Held.{freshRun, recordAfter};
-ghost use Rattle.calls.specs.Runs.{freshVerdict, FreshOn};
+ghost use Rattle.calls.specs.Runs.{FreshOn};
+ghost use Rattle.calls.specs.Checks.{freshVerdict};
 
 // Which refusal is given, if any; the last four numbers say how many cells the tables have.
 fn fresh_verdict(

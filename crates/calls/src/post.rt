@@ -13,7 +13,8 @@ use star::refusals::Verdict;
 ghost use mathlib.Core.Path.{_≡_};
 ghost use Prim.Native.Nat.{_<_};
 ghost use Rattle.calls.specs.Held.{held, postRun, recordAfter};
-ghost use Rattle.calls.specs.Runs.{postVerdict, PostOn};
+ghost use Rattle.calls.specs.Runs.{PostOn};
+ghost use Rattle.calls.specs.Checks.{postVerdict};
 
 // Which refusal is given, if any.
 fn post_verdict(

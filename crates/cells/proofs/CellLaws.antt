@@ -1,13 +1,13 @@
 -- The two matrices in one table: their cells, a store, and a table whose pairs get nothing more. The laws assume nothing.
-use mathlib.Core.Path.{_≡_, refl, ap, _∙_}
-use mathlib.Core.List.{List, [], _∷_, map}
 use Prim.Native.Nat.{ℕ, zero, suc, _+_, _-_, _*_, _/_, _%_, _≤_, _<_}
 use native.Mathlib.Omega.{arith}
+use mathlib.Core.Path.{_≡_, refl, ap, _∙_}
+use mathlib.Core.List.{List, [], _∷_, map}
 use lib.ListN.{length, getD, set, length-map, List·getD-map}
 use lib.Seq.{map-set-same}
 use Rattle.sums.specs.Tables.{cell}
 use Rattle.sums.proofs.Tables.{square-ext}
-use Rattle.star.specs.Tables.{Square}
+use Rattle.star.specs.Rooms.{Square}
 use Rattle.cells.specs.Cells.{paddedIn, keptIn, Gave, Took}
 
 map-set : (f : ℕ → ℕ) (l : List ℕ) (i y : ℕ) → map f (set l i y) ≡ set (map f l) i (f y)

@@ -5,7 +5,7 @@ use star::tables::put;
 ghost use mathlib.Core.Path.{_≡_};
 ghost use Prim.Native.Nat.{_+_, _<_, _≤_};
 ghost use Rattle.sums.specs.Tables.{cell};
-ghost use Rattle.star.specs.Tables.{Square};
+ghost use Rattle.star.specs.Rooms.{Square};
 ghost use Rattle.cells.specs.Cells.{paddedIn, keptIn, Gave, Took};
 
 // What the pair of source i and destination j still gets.

@@ -14,7 +14,8 @@ use Rattle.star.proofs.RefusalLaws.{never}
 use Rattle.pieces.proofs.PieceLaws.{answered-same}
 use Rattle.slacks.proofs.SlacksTheorems.{slacks-theorems}
 use Rattle.planner.specs.declared.answers.Answer.{Answer}
-use Rattle.planner.specs.Plans.{verdictOf, reportOf, Lent}
+use Rattle.planner.specs.Plans.{verdictOf, reportOf}
+use Rattle.planner.specs.Lent.{Lent}
 use Rattle.planner.proofs.PlanTheorems.{plan-theorems}
 use Rattle.calls.specs.Held.{Held}
 use Rattle.run.proofs.CallLaws.{fresh-theorems, post-theorems}

@@ -6,12 +6,11 @@ use mathlib.Core.Path.{_≡_}
 use mathlib.Core.List.{List}
 use lib.IntN.{ℤ}
 use lib.ListN.{length, getD, take}
-use Rattle.star.specs.declared.refusals.Verdict.{Verdict}
 use Rattle.star.specs.Refusals.{notice}
 use Rattle.slacks.specs.Slacks.{slacksNotice, SlacksResult}
-use Rattle.planner.specs.declared.answers.Answer.{Answer}
-use Rattle.planner.specs.Plans.{Lent, planNotice, PlanResult}
+use Rattle.planner.specs.Plans.{planNotice, PlanResult}
 use Rattle.planner.specs.Theorems.{SameResults}
+use Rattle.planner.specs.Lent.{Lent}
 use Rattle.calls.specs.Held.{Held}
 use Rattle.calls.specs.Runs.{freshNotice, Freshened, postNotice, Posted, frameNotice, Framed}
 use Rattle.run.specs.Theorems.{SameFrames}

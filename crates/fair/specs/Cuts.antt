@@ -5,8 +5,9 @@ use mathlib.Core.Bool.{Bool, _&&_, _||_}
 use mathlib.Core.List.{List}
 use lib.ListN.{length, getD, set, replicate}
 use lib.Dec.{leb}
-use Rattle.star.specs.Tables.{Square, Demands, Capacities}
+use Rattle.star.specs.Tables.{Demands}
 use Rattle.star.specs.Lines.{sourceOn, destinationOn, crossing, onLine, lineSum}
+use Rattle.star.specs.Rooms.{Square, Capacities}
 use Rattle.fair.specs.Fair.{Cutting, modifiedSum, unmodifiedSum, numerator, exceeds, smaller, taken, cutLine}
 
 -- the state of the cut, from its two tables

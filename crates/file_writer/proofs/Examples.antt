@@ -9,8 +9,8 @@ use Rattle.sums.specs.Sums.{sumTo}
 use Rattle.sums.specs.Tables.{tab, written}
 use Rattle.star.specs.declared.refusals.Refusal.the-variants.{TableShort}
 use Rattle.star.specs.declared.refusals.Verdict.the-variants.{Accepted}
-use Rattle.star.specs.Refusals.{Notice, notice, noticeOf, refuse, then}
-use Rattle.star.specs.Checks.{sizesVerdict, ruleVerdict, settingsVerdict, rangesVerdict}
+use Rattle.star.specs.Refusals.{Notice, notice, noticeOf}
+use Rattle.star.specs.Checks.{sizesVerdict, ruleVerdict, settingsVerdict, rangesVerdict, refuse, then}
 use Rattle.pieces.specs.Pieces.{joinTo}
 use Rattle.files.specs.declared.output.Output.{Output}
 use Rattle.files.specs.Format.{post, frame, Scenario}

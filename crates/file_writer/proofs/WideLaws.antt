@@ -13,7 +13,7 @@ use borrow.Author.Tests.{le-ltb, ltb-false}
 use Rattle.sums.proofs.Cases.{by-lt}
 use Rattle.sums.proofs.Searches.{first-at, first-none, first-before, first-here}
 use Rattle.star.specs.Refusals.{firstAboveIn, firstAbove}
-use Rattle.star.specs.Tables.{Square}
+use Rattle.star.specs.Rooms.{Square}
 
 -- all cells from a place on
 rest : (at : ℕ) (cells : List ℕ) → take (length cells - at) (drop at cells) ≡ drop at cells

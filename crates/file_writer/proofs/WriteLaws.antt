@@ -9,8 +9,8 @@ use borrow.Author.Tests.{ltb-false}
 use Rattle.sums.specs.Tables.{written}
 use Rattle.sums.proofs.Searches.{first-before}
 use Rattle.star.specs.declared.refusals.Verdict.the-variants.{Accepted}
-use Rattle.star.specs.Refusals.{noticeOf, then}
-use Rattle.star.specs.Checks.{Ranges}
+use Rattle.star.specs.Refusals.{noticeOf, Ranges}
+use Rattle.star.specs.Checks.{then}
 use Rattle.star.proofs.RefusalLaws.{in-numbers, passed, then-passed, group-in-numbers, promise-done, ranged, each-within}
 use Rattle.pieces.specs.Pieces.{Appended, joinTo}
 use Rattle.pieces.proofs.PieceLaws.{appended-more, appended-front}

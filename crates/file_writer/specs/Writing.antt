@@ -9,8 +9,8 @@ use Rattle.sums.specs.Tables.{written}
 use Rattle.star.specs.declared.refusals.Refusal.the-variants.{BadFile, DemandShort, TableShort, DemandAbove}
 use Rattle.star.specs.declared.refusals.Verdict.{Verdict}
 use Rattle.star.specs.declared.refusals.Verdict.the-variants.{Accepted}
-use Rattle.star.specs.Refusals.{Notice, accepted, check, refuse, then, Promise, nodesOut, slotsOut, ruleOut, limitOut, short, someCell, firstAboveIn}
-use Rattle.star.specs.Checks.{rangesVerdict}
+use Rattle.star.specs.Refusals.{Notice, accepted, check, Promise, nodesOut, slotsOut, ruleOut, limitOut, short, someCell, firstAboveIn}
+use Rattle.star.specs.Checks.{rangesVerdict, refuse, then}
 use Rattle.files.specs.declared.output.Output.{Output}
 use Rattle.files.specs.Output.{outputVerdict, outputLength}
 use Rattle.file_writer.specs.Bytes.{cellsIn, fileBytes, fileLength}

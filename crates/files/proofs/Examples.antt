@@ -8,10 +8,10 @@ use lib.ListN.{replicate}
 use Rattle.sums.specs.Searches.{firstBelow, firstFrom}
 use Rattle.sums.specs.Tables.{tab}
 use Rattle.star.specs.declared.refusals.Refusal.the-variants.{BadFile, TableShort}
-use Rattle.star.specs.Refusals.{verdictNumber, verdictPlace, refuse, then, notice, accepted, check}
-use Rattle.star.specs.Checks.{sizesVerdict, ruleVerdict, settingsVerdict, rangesVerdict}
-use Rattle.files.specs.declared.output.Output.the-variants as output
+use Rattle.star.specs.Refusals.{verdictNumber, verdictPlace, notice, accepted, check}
+use Rattle.star.specs.Checks.{sizesVerdict, ruleVerdict, settingsVerdict, rangesVerdict, refuse, then}
 use Rattle.files.specs.declared.reading.Reading.the-variants.{Table, Refused}
+use Rattle.files.specs.declared.output.Output.the-variants as output
 use Rattle.files.specs.Format.{two, four, kindOf, placeOf, matrixAt, post, frame, entryOf, scenarioOf}
 use Rattle.files.specs.Output.{outputVerdict, outputLength}
 use Rattle.files.specs.Reading.{tableBad, matrixOut, entryBadOf, entryBad, firstBad, readVerdict, readNotice, readAnswer}

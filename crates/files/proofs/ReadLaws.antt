@@ -13,8 +13,8 @@ use Rattle.star.specs.declared.refusals.Refusal.{Refusal}
 use Rattle.star.specs.declared.refusals.Refusal.the-variants.{BadFile}
 use Rattle.star.specs.declared.refusals.Verdict.{Verdict}
 use Rattle.star.specs.declared.refusals.Verdict.the-variants.{Accepted, Refused}
-use Rattle.star.specs.Refusals.{Notice, noticeOf, check, then, nodesOut, slotsOut, ruleOut, limitOut}
-use Rattle.star.specs.Checks.{sizesVerdict, ruleVerdict, settingsVerdict, rangesVerdict, Ranges}
+use Rattle.star.specs.Refusals.{Notice, noticeOf, check, nodesOut, slotsOut, ruleOut, limitOut, Ranges}
+use Rattle.star.specs.Checks.{sizesVerdict, ruleVerdict, settingsVerdict, rangesVerdict, then}
 use Rattle.star.proofs.RefusalLaws.{passes, in-numbers, passed, then-goes, then-passed, group-in-numbers, neither, neither-of, ranges-fit, ranged}
 use Rattle.files.specs.declared.reading.Reading.{Reading}
 use Rattle.files.specs.declared.reading.Reading.the-variants.{Table}

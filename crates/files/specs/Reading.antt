@@ -9,8 +9,8 @@ use Rattle.sums.specs.Searches.{firstBelow}
 use Rattle.star.specs.declared.refusals.Refusal.the-variants.{BadFile}
 use Rattle.star.specs.declared.refusals.Verdict.{Verdict}
 use Rattle.star.specs.declared.refusals.Verdict.the-variants as verdict
-use Rattle.star.specs.Refusals.{Notice, noticeOf, accepted, check, refuse, then, nodesOut, slotsOut, ruleOut, limitOut, someCell}
-use Rattle.star.specs.Checks.{rangesVerdict}
+use Rattle.star.specs.Refusals.{Notice, noticeOf, accepted, check, nodesOut, slotsOut, ruleOut, limitOut, someCell}
+use Rattle.star.specs.Checks.{rangesVerdict, refuse, then}
 use Rattle.files.specs.declared.reading.Reading.{Reading}
 use Rattle.files.specs.declared.reading.Reading.the-variants.{Table, Refused}
 use Rattle.files.specs.Format.{nodesOf, slotsOf, limitOf, ruleOf, entriesOf, kindOf, placeOf, tableEnd}

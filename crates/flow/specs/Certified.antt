@@ -3,8 +3,9 @@ use Prim.Native.Nat.{ℕ, _+_, _*_, _≤_, _<_}
 use mathlib.Core.Path.{_≡_}
 use mathlib.Core.List.{List}
 use lib.ListN.{length, getD, drop}
-use Rattle.star.specs.Tables.{Square, Demands}
+use Rattle.star.specs.Tables.{Demands}
 use Rattle.star.specs.Lines.{lineSum}
+use Rattle.star.specs.Rooms.{Square}
 use Rattle.flow.specs.Flows.{Feasible, Closed}
 
 -- tables that are long enough, and bounds within the range of demands

@@ -6,8 +6,8 @@ use lib.ListN.{getD}
 use lib.Dec.{eqb}
 use Rattle.sums.specs.Sums.{sumTo, gate}
 use Rattle.sums.specs.Tables.{cell}
-use Rattle.star.specs.Tables.{Square}
 use Rattle.star.specs.Lines.{lineSum}
+use Rattle.star.specs.Rooms.{Square}
 
 -- a matrix below its bound
 pub record Below (n : ℕ) (bound a : List ℕ) : Type 0 where

@@ -6,7 +6,7 @@ use star::tables::put;
 ghost use Prim.Native.Nat.{ℕ, _+_, _≤_};
 ghost use mathlib.Core.List.{List};
 ghost use lib.ListN.{length};
-ghost use Rattle.star.specs.Tables.{Square};
+ghost use Rattle.star.specs.Rooms.{Square};
 ghost use Rattle.growth.specs.Sides.{Sides, OpenLines, CanMore, CanLess, More, Less};
 
 // The open lines, those with headroom, of the n lines from line `from` on.

@@ -1,9 +1,9 @@
 -- Taking slots from the pairs, one destination after the other: the lines lose as much, pairs that fall below the level are parted, and the free
 -- nodes are those that were and those parted. The laws assume nothing.
-use mathlib.Core.Path.{_≡_, refl, sym, ap, _∙_}
-use mathlib.Core.List.{List}
 use Prim.Native.Nat.{ℕ, _+_, _-_, _*_, _≤_, _<_}
 use native.Mathlib.Omega.{arith}
+use mathlib.Core.Path.{_≡_, refl, sym, ap, _∙_}
+use mathlib.Core.List.{List}
 use lib.ListN.{length, getD, set, length-set}
 use lib.Seq.{getD-set-same, getD-set-other}
 use Rattle.sums.specs.Sums.{sumTo, hit}
@@ -11,8 +11,8 @@ use Rattle.sums.specs.Tables.{cell}
 use Rattle.sums.proofs.Sums.{sum-ext, sum-add, sum-scale, sum-hit, hit-same, hit-other}
 use Rattle.sums.proofs.Cases.{by-eq, by-lt}
 use Rattle.sums.proofs.Tables.{cell-lt, set-here, set-row, set-col}
-use Rattle.star.specs.Tables.{Square}
 use Rattle.star.specs.Lines.{lineSum}
+use Rattle.star.specs.Rooms.{Square}
 use Rattle.star.proofs.LineLaws.{row-sum, column-sum}
 use Rattle.nodes.specs.Sets.{member, With, Without}
 use Rattle.arrays.proofs.Stores.{square-kept}

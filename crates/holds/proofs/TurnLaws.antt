@@ -1,16 +1,16 @@
 -- A turn: at level 1 all can be paired, the setting that follows has no conflict, and what holds between two turns holds after it. The laws
 -- assume nothing.
+use Prim.Native.Nat.{ℕ, _+_, _*_, _≤_, _<_}
+use native.Mathlib.Omega.{arith}
 use mathlib.Core.Path.{_≡_, refl, sym, ap, _∙_}
 use mathlib.Core.Logic.{_⊎_, ⊎-elim, inl, inr}
 use mathlib.Core.List.{List}
-use Prim.Native.Nat.{ℕ, _+_, _*_, _≤_, _<_}
-use native.Mathlib.Omega.{arith}
 use lib.ListN.{length, getD}
 use Rattle.sums.specs.Sums.{hit}
 use Rattle.sums.specs.Tables.{cell}
 use Rattle.sums.proofs.Sums.{sum-two, hit-same, hit-other}
 use Rattle.sums.proofs.Cases.{by-eq, by-lt}
-use Rattle.star.specs.Tables.{Square}
+use Rattle.star.specs.Rooms.{Square}
 use Rattle.star.proofs.LineLaws.{row-sum, column-sum}
 use Rattle.nodes.specs.Sets.{All}
 use Rattle.arrays.specs.Arrays.{Filled}

@@ -9,8 +9,8 @@ use lib.ListN.{length, getD}
 use lib.Dec.{ltb}
 use Rattle.sums.specs.Sums.{hit}
 use Rattle.sums.specs.Tables.{cell}
-use Rattle.star.specs.Tables.{Square}
 use Rattle.star.specs.Lines.{lineSum}
+use Rattle.star.specs.Rooms.{Square}
 use Rattle.cells.specs.Cells.{paddedIn, keptIn}
 use Rattle.pairs.specs.Pairs.{partners}
 

@@ -4,8 +4,8 @@ use mathlib.Core.Path.{_≡_}
 use mathlib.Core.List.{List}
 use lib.ListN.{length, getD}
 use Rattle.sums.specs.Tables.{cell}
-use Rattle.star.specs.Tables.{Square}
 use Rattle.star.specs.Lines.{lineSum}
+use Rattle.star.specs.Rooms.{Square}
 use Rattle.at_least.specs.AtLeast.{AtLeast}
 use Rattle.cells.specs.Cells.{paddedIn}
 use Rattle.pairs.specs.declared.free.Free.{Free}

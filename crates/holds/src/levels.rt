@@ -3,7 +3,7 @@ use star::numbers::larger;
 use star::numbers::smaller;
 ghost use Prim.Native.Nat.{_<_, _≤_};
 ghost use lib.ListN.{length};
-ghost use Rattle.star.specs.Tables.{Square};
+ghost use Rattle.star.specs.Rooms.{Square};
 ghost use Rattle.at_least.specs.AtLeast.{AtLeast};
 ghost use Rattle.cells.specs.Cells.{paddedIn};
 

@@ -5,7 +5,7 @@ use crate::settings;
 use arrays::lists;
 use pairs::free::Free;
 use pairs::matching::match_all;
-ghost use Rattle.star.specs.Tables.{Square};
+ghost use Rattle.star.specs.Rooms.{Square};
 ghost use Rattle.pairs.specs.Pairs.{Rooms};
 ghost use Rattle.holds.specs.Turns.{Begun, CanPair, Ready, CanTake, Parted, CanTurn, Turned};
 

@@ -1,22 +1,23 @@
 -- Padding: what each loop keeps. A pair that got the smaller of what its lines lack leaves one of them lacking nothing; rows and columns
 -- lack the same in all, so in the end nobody lacks anything. The laws assume nothing.
+use Prim.Native.Nat.{ℕ, _+_, _-_, _*_, _≤_, _<_, min, max}
+use native.Mathlib.Omega.{arith}
 use mathlib.Core.Path.{_≡_, refl, sym, ap, _∙_}
 use mathlib.Core.Logic.{_⊎_, ⊎-elim, inl, inr}
 use mathlib.Core.List.{List}
-use Prim.Native.Nat.{ℕ, _+_, _-_, _*_, _≤_, _<_, min, max}
-use native.Mathlib.Omega.{arith}
-use borrow.Author.Count.{below-more}
 use lib.ListN.{length, getD, set, length-set}
 use lib.Seq.{getD-set-same, getD-set-other}
+use borrow.Author.Count.{below-more}
 use Rattle.sums.specs.Sums.{sumTo, hit}
 use Rattle.sums.specs.Tables.{cell}
 use Rattle.sums.proofs.Sums.{sum-ext, sum-add, sum-at, sum-all-zero, hit-same, hit-other}
 use Rattle.sums.proofs.Cases.{by-eq, by-lt}
 use Rattle.sums.proofs.Fills.{set-more}
 use Rattle.sums.proofs.Tables.{cell-lt, set-here, set-row, set-col}
-use Rattle.star.specs.Tables.{Square, Demands}
+use Rattle.star.specs.Tables.{Demands}
 use Rattle.star.specs.Lines.{lineSum}
 use Rattle.star.specs.LineSums.{Summed}
+use Rattle.star.specs.Rooms.{Square}
 use Rattle.star.proofs.LineLaws.{total-rows, total-columns, line-ext, cell-in-row}
 use Rattle.arrays.proofs.Stores.{square-kept}
 use Rattle.cells.specs.Cells.{paddedIn, Gave}

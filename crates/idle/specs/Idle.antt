@@ -5,8 +5,8 @@ use mathlib.Core.Logic.{_⊎_}
 use mathlib.Core.List.{List}
 use lib.ListN.{length, getD}
 use Rattle.sums.specs.Tables.{cell}
-use Rattle.star.specs.Tables.{Square}
 use Rattle.star.specs.Lines.{lineSum}
+use Rattle.star.specs.Rooms.{Square}
 use Rattle.cells.specs.Cells.{paddedIn, keptIn}
 
 -- no line is above 1,024, the most that a frame has

@@ -4,7 +4,7 @@ use star::numbers::larger;
 use star::numbers::smaller;
 ghost use Prim.Native.Nat.{_*_, _<_, _≤_};
 ghost use lib.ListN.{length};
-ghost use Rattle.star.specs.Tables.{Square};
+ghost use Rattle.star.specs.Rooms.{Square};
 ghost use Rattle.idle.specs.Idle.{Small, Loaded, LargestSum, Lacking, CanPad, Fuller, PaddedAt, PaddedAll, CanFill, Padded};
 
 // Every pair gets what it keeps.

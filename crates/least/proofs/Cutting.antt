@@ -12,9 +12,10 @@ use borrow.Author.Tests.{lt-ltb, le-ltb}
 use Rattle.sums.specs.Tables.{cell, square}
 use Rattle.sums.proofs.Cases.{by-eq, by-lt, by-test}
 use Rattle.sums.proofs.Tables.{length-square, square-cell, square-ext}
-use Rattle.star.specs.Tables.{Square, Demands}
+use Rattle.star.specs.Tables.{Demands}
 use Rattle.star.specs.Lines.{onLine, lineSum}
 use Rattle.star.specs.LineSums.{Summed}
+use Rattle.star.specs.Rooms.{Square}
 use Rattle.star.proofs.LineLaws.{on-row, on-column, demands-below, in-column}
 use Rattle.least.specs.Least.{longer, shared, left, keptCell, keptFrom}
 use Rattle.least.specs.Promises.{MeetInZero, Rewritten, CanShare, CanKeep}

@@ -7,9 +7,10 @@ use lib.ListN.{length, getD, drop}
 use lib.Dec.{ltb}
 use Rattle.sums.specs.Sums.{sumTo, bit}
 use Rattle.sums.specs.Tables.{cell, tab}
-use Rattle.star.specs.Tables.{Square, Demands, Capacities}
+use Rattle.star.specs.Tables.{Demands}
 use Rattle.star.specs.Lines.{onLine, excess}
 use Rattle.star.specs.LineSums.{Summed}
+use Rattle.star.specs.Rooms.{Square, Capacities}
 use Rattle.flow.specs.Flows.{Closed}
 use Rattle.least.specs.Least.{Greatest, longer, share, remainder, missing}
 

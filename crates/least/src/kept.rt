@@ -8,8 +8,8 @@ ghost use lib.Dec.{ltb};
 ghost use lib.ListN.{length, getD};
 ghost use Rattle.sums.specs.Sums.{bit};
 ghost use Rattle.sums.specs.Tables.{square, written};
-ghost use Rattle.star.specs.Tables.{Square};
 ghost use Rattle.star.specs.Lines.{lineSum};
+ghost use Rattle.star.specs.Rooms.{Square};
 ghost use Rattle.least.specs.Least.{left, shared, keptCell, keptFrom};
 ghost use Rattle.least.specs.Promises.{Rewritten, Line, claim, outranking, Divided, CanShare, CanKeep};
 

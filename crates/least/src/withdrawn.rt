@@ -7,8 +7,9 @@ ghost use mathlib.Core.Path.{_≡_};
 ghost use Prim.Native.Nat.{_*_, _≤_};
 ghost use lib.ListN.{length, take};
 ghost use Rattle.sums.specs.Tables.{tab};
-ghost use Rattle.star.specs.Tables.{Square, Demands, Capacities};
+ghost use Rattle.star.specs.Tables.{Demands};
 ghost use Rattle.star.specs.Lines.{excess};
+ghost use Rattle.star.specs.Rooms.{Square, Capacities};
 ghost use Rattle.least.specs.Promises.{CanWithdraw, Withdrew};
 
 // Writes the excess of each line: first the sums of all lines, and then each sum gives way to its excess.

@@ -16,16 +16,18 @@ use Rattle.sums.proofs.Tables.{mul-small}
 use Rattle.star.specs.declared.refusals.Refusal.{Refusal}
 use Rattle.star.specs.declared.refusals.Refusal.the-variants.{Nodes, Slots, Rule, DemandShort, TableShort, DemandAbove}
 use Rattle.star.specs.declared.refusals.Verdict.the-variants as verdict
-use Rattle.star.specs.Refusals.{refuse, then, nodesOut, slotsOut, ruleOut, someCell, firstAbove, refusalNumber, refusalPlace}
+use Rattle.star.specs.Refusals.{nodesOut, slotsOut, ruleOut, someCell, firstAbove, refusalNumber, refusalPlace, Sizes}
 use Rattle.star.specs.Lines.{total, wholeFrame}
-use Rattle.star.specs.Checks.{sizesVerdict, ruleVerdict, demandShortVerdict, demandAboveVerdict, Sizes}
+use Rattle.star.specs.Checks.{sizesVerdict, ruleVerdict, demandShortVerdict, demandAboveVerdict, refuse, then}
 use Rattle.star.proofs.RefusalLaws.{fires, passes, never, then-stops, then-goes, in-its-range, sizes-fit, rule-fits, demand-fits}
 use Rattle.pieces.specs.Pieces.{Appended, Answered}
 use Rattle.pieces.specs.Text.{badInput, refusalText}
 use Rattle.pieces.proofs.PieceLaws.{answered-text}
 use Rattle.planner.specs.declared.answers.Answer.{Answer}
 use Rattle.planner.specs.declared.answers.Answer.the-variants.{Planned, Refused}
-use Rattle.planner.specs.Plans.{verdictOf, reportOf, Lent, lent, lentShortVerdict, planVerdict, Plan, PlanResult, LentRoom}
+use Rattle.planner.specs.Plans.{verdictOf, reportOf, Plan, PlanResult}
+use Rattle.planner.specs.Lent.{Lent, lent, LentRoom}
+use Rattle.planner.specs.Checks.{lentShortVerdict, planVerdict}
 use Rattle.planner.proofs.PlanLaws.{lent-fits, plan-room}
 use Rattle.number_list.specs.Input.{listOf}
 use Rattle.number_list.specs.Reads.{Stored, Holds}

@@ -11,7 +11,8 @@ use Rattle.star.specs.declared.refusals.Refusal.the-variants.{Nodes, Slots, Rul
 use Rattle.star.specs.Refusals.{nodesOut, slotsOut, ruleOut, someCell, firstAbove, refusalNumber, refusalPlace}
 use Rattle.star.specs.Lines.{total, wholeFrame}
 use Rattle.pieces.specs.Text.{badInput, refusalText}
-use Rattle.planner.specs.Plans.{Lent, Plan}
+use Rattle.planner.specs.Plans.{Plan}
+use Rattle.planner.specs.Lent.{Lent}
 use Rattle.number_list.specs.Input.{listOf}
 use Rattle.matrix_text.specs.Text.{planText}
 

@@ -6,9 +6,10 @@ use mathlib.Core.Option.{some}
 use lib.ListN.{length, getD, drop}
 use Rattle.star.specs.declared.refusals.Refusal.{Refusal}
 use Rattle.star.specs.Lines.{wholeFrame}
-use Rattle.star.specs.Checks.{Sizes}
+use Rattle.star.specs.Refusals.{Sizes}
 use Rattle.pieces.specs.Pieces.{Answered}
-use Rattle.planner.specs.Plans.{Lent, Plan}
+use Rattle.planner.specs.Plans.{Plan}
+use Rattle.planner.specs.Lent.{Lent}
 use Rattle.number_list.specs.Input.{listOf}
 use Rattle.matrix_text.specs.Text.{headText, totalsText, rowsText}
 use Rattle.matrix_text.specs.Outcomes.{Outcome, BadInput, Refuses, Plans, outcome, Prints}

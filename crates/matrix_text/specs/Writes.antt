@@ -7,7 +7,7 @@ use lib.Dec.{leb}
 use Rattle.star.specs.declared.refusals.Refusal.{Refusal}
 use Rattle.star.specs.declared.refusals.Verdict.the-variants.{Accepted}
 use Rattle.star.specs.Refusals.{refusalNumber, refusalPlace}
-use Rattle.star.specs.Tables.{Square}
+use Rattle.star.specs.Rooms.{Square}
 use Rattle.pieces.specs.Pieces.{Appended}
 use Rattle.pieces.specs.Text.{badInput, refusalText}
 use Rattle.planner.specs.declared.answers.Answer.{Answer}

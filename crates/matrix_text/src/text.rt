@@ -7,7 +7,7 @@ use star::tables::get;
 ghost use mathlib.Core.Path.{_≡_};
 ghost use Prim.Native.Nat.{_+_, _≤_, _<_};
 ghost use lib.ListN.{length};
-ghost use Rattle.star.specs.Tables.{Square};
+ghost use Rattle.star.specs.Rooms.{Square};
 ghost use Rattle.pieces.specs.Pieces.{Appended};
 ghost use Rattle.matrix_text.specs.Text.{headText, totalsText, markAfter, cellText, rowText, rowsText, planText, longestText};
 

@@ -6,11 +6,12 @@ use mathlib.Core.List.{List, [], _∷_}
 use Rattle.sums.specs.Searches.{firstBelow, firstFrom}
 use Rattle.star.specs.declared.refusals.Refusal.the-variants.{TableShort, DemandAbove}
 use Rattle.star.specs.declared.refusals.Verdict.the-variants as verdict
-use Rattle.star.specs.Refusals.{Notice, notice, noticeOf, refuse, then, firstAbove}
-use Rattle.star.specs.Checks.{sizesVerdict, ruleVerdict, demandShortVerdict, demandAboveVerdict}
+use Rattle.star.specs.Refusals.{Notice, notice, noticeOf, firstAbove}
+use Rattle.star.specs.Checks.{sizesVerdict, ruleVerdict, demandShortVerdict, demandAboveVerdict, refuse, then}
 use Rattle.planner.specs.declared.answers.Report.{Report}
 use Rattle.planner.specs.declared.answers.Answer.the-variants.{Planned, Refused}
-use Rattle.planner.specs.Plans.{verdictOf, reportOf, lentShortVerdict, planVerdict}
+use Rattle.planner.specs.Plans.{verdictOf, reportOf}
+use Rattle.planner.specs.Checks.{lentShortVerdict, planVerdict}
 
 -- given how many cells kept, withdrawn and schedule have
 abbrev plan : (n l rule : ℕ) (d : List ℕ) (kept withdrawn schedule : ℕ) → Notice

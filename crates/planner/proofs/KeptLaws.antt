@@ -12,7 +12,7 @@ use Rattle.fair.specs.Fair.{fairKept}
 use Rattle.fair.proofs.Steps.{fair-length, fair-admissible, fair-below}
 use Rattle.least.specs.Least.{Greatest, keptFrom}
 use Rattle.least.proofs.Keeping.{length-kept, kept-below, kept-admissible}
-use Rattle.planner.specs.Kept.{KeptByRule}
+use Rattle.planner.specs.Work.{KeptByRule}
 
 -- a table that begins with a matrix is admissible where that is, and at most what that is at most
 module _ (n : ℕ) (table new : List ℕ) (first : take (n * n) table ≡ new) where

@@ -12,7 +12,8 @@ use Rattle.star.proofs.AlikeLaws.{excess-ext, critical-ext}
 use Rattle.fair.specs.Fair.{fairKept, steps, uncut}
 use Rattle.least.specs.Least.{Withdrawn, Greatest, left, keptCell, keptFrom}
 use Rattle.least.proofs.Keeping.{refused-total}
-use Rattle.planner.specs.Plans.{Lent, Plan}
+use Rattle.planner.specs.Plans.{Plan}
+use Rattle.planner.specs.Lent.{Lent}
 
 rule-ext : (n : ℕ) (f g : ℕ → ℕ → ℕ) → ((i j : ℕ) → i < n → j < n → f i j ≡ g i j) → square n f ≡ square n g
 unfolding square

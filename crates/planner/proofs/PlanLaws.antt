@@ -10,18 +10,20 @@ use Rattle.sums.proofs.Sums.{sum-mono}
 use Rattle.sums.proofs.Cases.{by-eq}
 use Rattle.sums.proofs.Tables.{place-split, at-place}
 use Rattle.star.specs.declared.refusals.Verdict.the-variants.{Accepted}
-use Rattle.star.specs.Refusals.{noticeOf, then}
+use Rattle.star.specs.Refusals.{noticeOf, Sizes}
 use Rattle.star.specs.Tables.{Demands}
 use Rattle.star.specs.Lines.{total, wholeFrame, Admissible}
-use Rattle.star.specs.Checks.{sizesVerdict, ruleVerdict, demandShortVerdict, demandAboveVerdict, Sizes}
+use Rattle.star.specs.Checks.{sizesVerdict, ruleVerdict, demandShortVerdict, demandAboveVerdict, then}
 use Rattle.star.proofs.RefusalLaws.{passes, in-numbers, passed, then-goes, then-passed, group-in-numbers, neither, neither-of, sizes-fit, sized, rule-fits, ruled, demand-fits, long-demand, demand-within, within}
 use Rattle.star.proofs.LineLaws.{capacity, whole-frame-fits}
 use Rattle.slots.specs.Places.{Places}
 use Rattle.fair.proofs.Steps.{fair-below}
 use Rattle.least.proofs.Keeping.{kept-below}
 use Rattle.planner.specs.declared.answers.Report.{Report}
-use Rattle.planner.specs.Kept.{KeepRoom, KeptByRule}
-use Rattle.planner.specs.Plans.{Lent, lentShortVerdict, planVerdict, planNotice, Plan, PlanDone, LentRoom, PlanRoom}
+use Rattle.planner.specs.Plans.{planNotice, Plan, PlanDone}
+use Rattle.planner.specs.Work.{KeepRoom, KeptByRule, PlanRoom}
+use Rattle.planner.specs.Lent.{Lent, LentRoom}
+use Rattle.planner.specs.Checks.{lentShortVerdict, planVerdict}
 use Rattle.planner.proofs.KeptLaws.{as-below}
 
 -- a matrix that is at most another at each pair has at most its total

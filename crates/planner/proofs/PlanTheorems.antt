@@ -29,8 +29,10 @@ use Rattle.least.proofs.LeastIsLeast.{least-is-least}
 use Rattle.planner.specs.declared.answers.Report.{Report}
 use Rattle.planner.specs.declared.answers.Answer.{Answer}
 use Rattle.planner.specs.declared.answers.Answer.the-variants.{Planned, Refused}
-use Rattle.planner.specs.Plans.{verdictOf, reportOf, Lent, lent, planVerdict, Plan, PlanDone, PlanResult, LentRoom}
+use Rattle.planner.specs.Plans.{verdictOf, reportOf, Plan, PlanDone, PlanResult}
 use Rattle.planner.specs.Theorems.{SoundPlan, LeastPlan, SamePlans, SameResults, SameAsNeeded, WrongPlanners, PlanTheorems}
+use Rattle.planner.specs.Lent.{Lent, lent, LentRoom}
+use Rattle.planner.specs.Checks.{planVerdict}
 use Rattle.planner.proofs.KeptLaws.{as-admissible}
 use Rattle.planner.proofs.PlanLaws.{total-below, plan-below, whole-room, lent-fits, plan-accepts, plan-room}
 use Rattle.planner.proofs.NeededLaws.{fair-ext, kept-ext, least-total}

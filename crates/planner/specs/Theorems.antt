@@ -9,12 +9,14 @@ use Rattle.star.specs.declared.refusals.Refusal.{Refusal}
 use Rattle.star.specs.declared.refusals.Verdict.the-variants as verdict
 use Rattle.star.specs.Tables.{Alike}
 use Rattle.star.specs.Lines.{total, wholeFrame, excess, Admissible}
-use Rattle.star.specs.Checks.{Sizes}
 use Rattle.star.specs.Schedules.{ConflictFree, Respects, refusedBy}
+use Rattle.star.specs.Refusals.{Sizes}
 use Rattle.planner.specs.declared.answers.Report.{Report}
 use Rattle.planner.specs.declared.answers.Answer.{Answer}
 use Rattle.planner.specs.declared.answers.Answer.the-variants.{Refused}
-use Rattle.planner.specs.Plans.{verdictOf, reportOf, Lent, lent, LentRoom, PlanDone, planVerdict, PlanResult}
+use Rattle.planner.specs.Plans.{verdictOf, reportOf, PlanDone, PlanResult}
+use Rattle.planner.specs.Lent.{Lent, lent, LentRoom}
+use Rattle.planner.specs.Checks.{planVerdict}
 
 -- ---- plans with any capacities
 -- Under both rules kept is within the capacities and at most the demand at each pair, and the schedule refuses, as source document 000 counts it,

@@ -6,8 +6,8 @@ use star::checks::sizes;
 use star::refusals::Refusal;
 use star::refusals::Verdict;
 ghost use mathlib.Core.Path.{_≡_};
-ghost use Rattle.star.specs.Checks.{Sizes};
-ghost use Rattle.planner.specs.Plans.{lentShortVerdict, planVerdict};
+ghost use Rattle.star.specs.Refusals.{Sizes};
+ghost use Rattle.planner.specs.Checks.{lentShortVerdict, planVerdict};
 
 // Any of the three tables that a plan writes too short (5), given how many cells each has.
 pub fn lent_short(n: usize, l: usize, kept: usize, withdrawn: usize, schedule: usize) -> Verdict

@@ -2,9 +2,10 @@
 use star::lines::line_sum;
 use star::tables::clear;
 ghost use mathlib.Core.Path.{_≡_};
-ghost use Rattle.star.specs.Tables.{Square, Demands};
+ghost use Rattle.star.specs.Tables.{Demands};
 ghost use Rattle.star.specs.Lines.{total};
-ghost use Rattle.planner.specs.Kept.{KeepRoom, KeptByRule};
+ghost use Rattle.star.specs.Rooms.{Square};
+ghost use Rattle.planner.specs.Work.{KeepRoom, KeptByRule};
 
 // Writes kept and withdrawn by the rule: 0 is the fair one, under which nothing is withdrawn, any other the least one.
 pub fn keep_by_rule(

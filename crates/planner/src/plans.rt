@@ -7,7 +7,8 @@ use crate::kept::total;
 use slots::placing::place;
 use star::refusals::Verdict;
 ghost use Rattle.star.specs.Lines.{wholeFrame};
-ghost use Rattle.planner.specs.Plans.{PlanRoomOn, PlanDoneOn, PlanOn};
+ghost use Rattle.planner.specs.Plans.{PlanOn};
+ghost use Rattle.planner.specs.Work.{PlanRoomOn, PlanDoneOn};
 
 // The work of a plan, once all checks have passed: keeps by the rule, places what is kept, and reports.
 fn write_plan(

@@ -6,7 +6,7 @@ use Rattle.star.specs.declared.refusals.Verdict.the-variants.{Accepted}
 use Rattle.star.proofs.RefusalLaws.{never}
 use Rattle.planner.specs.declared.answers.Report.{Report}
 use Rattle.planner.specs.declared.answers.Answer.the-variants.{Planned}
-use Rattle.planner.specs.Plans.{Lent}
+use Rattle.planner.specs.Lent.{Lent}
 use Rattle.run.specs.Histories.{posting, framing, restarting}
 use Rattle.files.specs.Format.{post, frame}
 use Rattle.play.specs.Plays.{told, AllAccepted, more}

@@ -5,7 +5,7 @@ use Prim.Native.Nat.{ℕ, _+_, _*_, _≤_, _<_}
 use native.Mathlib.Nat.{le-of-eq, mul-le-mul}
 use native.Mathlib.Numerals.{add-one}
 use native.Mathlib.Omega.{arith}
-use mathlib.Core.Path.{_≡_, refl, sym, _∙_, ap, ap₂, subst}
+use mathlib.Core.Path.{_≡_, refl, sym, _∙_, ap, subst}
 use mathlib.Core.Bool.{cond}
 use mathlib.Core.List.{List, [], _∷_, _++_}
 use lib.ListN.{length, take, length-append}
@@ -14,9 +14,10 @@ use Rattle.sums.specs.Tables.{tab, written}
 use Rattle.sums.proofs.Tables.{mul-small, length-tab, tab-at, written-first}
 use Rattle.star.specs.declared.refusals.Verdict.{Verdict}
 use Rattle.star.specs.declared.refusals.Verdict.the-variants.{Accepted, Refused}
-use Rattle.star.specs.Checks.{Ranges}
+use Rattle.star.specs.Refusals.{Ranges}
 use Rattle.planner.specs.declared.answers.Answer.{Answer}
-use Rattle.planner.specs.Plans.{verdictOf, Lent}
+use Rattle.planner.specs.Plans.{verdictOf}
+use Rattle.planner.specs.Lent.{Lent}
 use Rattle.calls.specs.declared.record.Run.{Run}
 use Rattle.calls.specs.Held.{Held, held, freshRun, postRun, frameRun, recordAfter}
 use Rattle.calls.specs.Runs.{Freshened, Posted, Framed}
@@ -78,17 +79,17 @@ module _ {file : List ℕ} {e : ℕ} {h : Held} (c : CanPlay file e h) where
   callable = always-callable (c .played .history)
 
   pub can-nodes : h .run .nodes ≡ nodesOf file
-  can-nodes = books .nodes
+  can-nodes = ap (λ r. r .nodes) (books .run)
 
   module _ (in-table : e < entriesOf file) where
     few : length (told (c .played .events)) ≤ 4096
     few = omega (arith, ap length (c .played .entries), length-tab (entryOf file) e, can-sound .table .few)
 
     pub few-posts : h .run .posts < 1000000
-    few-posts = omega (arith, few, books .posts, posts-few (c .played .events))
+    few-posts = omega (arith, few, ap (λ r. r .posts) (books .run), posts-few (c .played .events))
 
     pub few-frames : h .run .frames < 1000000
-    few-frames = omega (arith, few, books .frames, frames-few (c .played .events))
+    few-frames = omega (arith, few, ap (λ r. r .frames) (books .run), frames-few (c .played .events))
 
     -- a post's matrix lies in the file
     pub post-within : kindOf file e ≡ 0 → placeOf file e + 2 * (h .run .nodes * h .run .nodes) ≤ length file

@@ -13,7 +13,8 @@ use Rattle.star.specs.declared.refusals.Verdict.{Verdict}
 use Rattle.star.specs.declared.refusals.Verdict.the-variants.{Accepted}
 use Rattle.star.proofs.RefusalLaws.{never}
 use Rattle.planner.specs.declared.answers.Answer.{Answer}
-use Rattle.planner.specs.Plans.{verdictOf, Lent, LentRoom}
+use Rattle.planner.specs.Plans.{verdictOf}
+use Rattle.planner.specs.Lent.{Lent, LentRoom}
 use Rattle.calls.specs.Held.{Held, HeldAlike}
 use Rattle.calls.specs.Runs.{Freshened, Posted, Framed}
 use Rattle.calls.proofs.Verdicts.{fresh-accepted, post-accepted, frame-accepted}
@@ -57,7 +58,7 @@ module _ {n l limit rule : ℕ} (fair : rule ≡ 0) where
 
   module _ {es : List Event} {h g : Held} (past : History n l limit rule es h) (s : HeldAlike n h g) where
     here : h .run .nodes ≡ n
-    here = books-hold past .nodes
+    here = ap (λ r. r .nodes) (books-hold past .run)
 
     alike : HeldAlike (h .run .nodes) h g
     alike = subst (λ m. HeldAlike m h g) (sym here) s
@@ -71,7 +72,7 @@ module _ {n l limit rule : ℕ} (fair : rule ≡ 0) where
     same-frame {h'} {g'} {lent} {plan} {given} {made} {r} {t} x y ok ko =
         let one = frame-accepted h lent (sym (x .answer) ∙ ok) .tables in
         let other = subst (λ run. LentRoom (run .nodes) (run .slots) given) (sym (s .run)) (frame-accepted g given (sym (y .answer) ∙ ko) .tables) in
-        subst (λ m. HeldAlike m h' g') here (frame-theorems .needed lent plan given made h h' g g' r t x y alike one other .fair-held ok (books-hold past .rules ∙ fair))
+        subst (λ m. HeldAlike m h' g') here (frame-theorems .needed lent plan given made h h' g g' r t x y alike one other .fair-held ok (ap (λ r. r .rule) (books-hold past .run) ∙ fair))
 
   pub same-held : (es fs : List Event) (h k : Held) → History n l limit rule es h → History n l limit rule fs k → told es ≡ told fs → AllAccepted es → AllAccepted fs → HeldAlike n h k
   unfolding told

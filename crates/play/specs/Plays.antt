@@ -8,7 +8,8 @@ use Rattle.star.specs.declared.refusals.Verdict.{Verdict}
 use Rattle.star.specs.declared.refusals.Verdict.the-variants.{Accepted}
 use Rattle.star.specs.Tables.{Demands}
 use Rattle.planner.specs.declared.answers.Answer.{Answer}
-use Rattle.planner.specs.Plans.{verdictOf, Lent}
+use Rattle.planner.specs.Plans.{verdictOf}
+use Rattle.planner.specs.Lent.{Lent}
 use Rattle.calls.specs.declared.record.Run.{Run}
 use Rattle.calls.specs.Held.{Held, postRun, frameRun, recordAfter}
 use Rattle.calls.specs.Runs.{Posted, Framed}

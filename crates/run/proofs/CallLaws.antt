@@ -1,20 +1,17 @@
 -- The theorems on fresh and post. The verdict is a function of what was given, and what is held then is one of the verdict and of what was held; each
 -- reads only the cells needed. Assumes nothing.
-use Prim.Native.Nat.{ℕ, _*_, _≤_, _<_}
+use Prim.Native.Nat.{ℕ, _*_}
 use native.Mathlib.Omega.{arith}
 use mathlib.Core.Path.{_≡_, refl, sym, _∙_, ap, subst}
 use mathlib.Core.List.{List}
-use lib.ListN.{length}
-use Rattle.star.specs.declared.refusals.Refusal.{Refusal}
 use Rattle.star.specs.declared.refusals.Verdict.{Verdict}
 use Rattle.star.specs.declared.refusals.Verdict.the-variants.{Accepted, Refused}
 use Rattle.star.specs.Tables.{Alike}
 use Rattle.star.proofs.RefusalLaws.{promise-same}
-use Rattle.star.proofs.AlikeLaws.{both-long}
 use Rattle.books.proofs.QueueLaws.{zeroed-length, more-length, overflowed-length, queued-length, zeroed-alike, more-alike, queued-alike, overflowed-alike}
 use Rattle.calls.specs.Held.{Held, LongEnough, HeldAlike, postRun}
-use Rattle.calls.specs.Checks.{heldShortVerdict}
-use Rattle.calls.specs.Runs.{freshVerdict, Freshened, Posted}
+use Rattle.calls.specs.Checks.{freshVerdict}
+use Rattle.calls.specs.Runs.{Freshened, Posted}
 use Rattle.calls.proofs.Verdicts.{Balanced, fresh-accepts, fresh-accepted, held-fits, post-accepts, post-accepted, alike-post}
 use Rattle.run.specs.Theorems.{Callable, SameLengths, FreshTheorems, PostTheorems}
 

@@ -1,6 +1,6 @@
 -- The theorems on frames. An accepted frame has passed all checks of a plan, since no queue is longer than B; two such frames then agree as plans
 -- do, and what is held follows from kept. Assumes nothing.
-use Prim.Native.Nat.{ℕ, _*_}
+use Prim.Native.Nat.{_*_}
 use native.Mathlib.Omega.{arith}
 use mathlib.Core.Path.{_≡_, refl, sym, _∙_, ap, subst}
 use lib.ListN.{length, take}
@@ -10,8 +10,9 @@ use Rattle.star.specs.Tables.{Alike}
 use Rattle.star.proofs.RefusalLaws.{never, promise-done}
 use Rattle.planner.specs.declared.answers.Answer.{Answer}
 use Rattle.planner.specs.declared.answers.Answer.the-variants as answer
-use Rattle.planner.specs.Plans.{verdictOf, Lent, LentRoom, PlanResult}
-use Rattle.planner.specs.Theorems.{SameResults, SameAsNeeded}
+use Rattle.planner.specs.Plans.{verdictOf, PlanResult}
+use Rattle.planner.specs.Theorems.{SameAsNeeded}
+use Rattle.planner.specs.Lent.{Lent, LentRoom}
 use Rattle.planner.proofs.PlanLaws.{plan-notice, plan-accepts}
 use Rattle.planner.proofs.PlanTheorems.{plan-theorems}
 use Rattle.books.proofs.QueueLaws.{more-length, served-length, more-alike, served-alike}

@@ -3,7 +3,7 @@
 use Prim.Native.Nat.{ℕ, _*_, _/_, _%_, _≤_, _<_}
 use native.Mathlib.Nat.{le-of-eq}
 use native.Mathlib.Omega.{arith}
-use mathlib.Core.Path.{_≡_, sym, _∙_, ap, subst}
+use mathlib.Core.Path.{_≡_, refl, sym, _∙_, ap, subst}
 use mathlib.Core.Bool.{Bool, true, false}
 use mathlib.Core.List.{List, [], _∷_, _++_}
 use lib.ListN.{length, getD}
@@ -17,13 +17,13 @@ use Rattle.star.specs.Refusals.{Notice, noticeOf, check, someCell}
 use Rattle.star.proofs.RefusalLaws.{never}
 use Rattle.planner.specs.declared.answers.Answer.{Answer}
 use Rattle.planner.specs.declared.answers.Answer.the-variants as answer
-use Rattle.planner.specs.Plans.{verdictOf, Lent}
+use Rattle.planner.specs.Plans.{verdictOf}
+use Rattle.planner.specs.Lent.{Lent}
 use Rattle.books.proofs.Agreements.{Agree}
-use Rattle.calls.specs.Held.{Held, LongEnough}
-use Rattle.calls.specs.Checks.{disagreeing}
+use Rattle.calls.specs.Held.{Held, LongEnough, disagreeing}
 use Rattle.calls.specs.Runs.{freshNotice, Freshened, postNotice, Posted, frameNotice, Framed}
 use Rattle.calls.proofs.Verdicts.{Balanced, none-disagree, frame-accepted}
-use Rattle.run.specs.Histories.{Event, posting, framing, restarting, outcome, Happens, History, continued, queue, SendsMost, BooksHold}
+use Rattle.run.specs.Histories.{Event, posting, framing, restarting, outcome, Happens, History, continued, queue, postsOf, framesOf, SendsMost, BooksHold}
 use Rattle.run.specs.Theorems.{BooksInOrder, Callable}
 use Rattle.run.proofs.SentLaws.{plan-most, met-ext}
 use Rattle.run.proofs.Moments.{Now, always, planned, sent-waited}
@@ -114,6 +114,11 @@ happens-not-eight now p (posting arrivals v) h' c = post-not-eight now p arrival
 happens-not-eight now p (framing lent plan r) h' c = frame-not-eight now p r c
 happens-not-eight now p (restarting n l limit rule x) h' c = fresh-not-eight c
 
+-- the record keeps N, L, B and the rule, and counts the accepted posts and frames
+now-run : {n l limit rule : ℕ} {es : List Event} {h : Held} → Now n l limit rule es h →
+    h .run ≡ record { nodes = n; slots = l; limit = limit; rule = rule; posts = postsOf es; frames = framesOf es }
+now-run {h = h} now = rw (← (now .nodes), ← (now .slots), ← (now .limits), ← (now .rules), ← (now .posts), ← (now .frames)) refl
+
 -- ---- the theorem
 module _ {n l limit rule : ℕ} where
   sends-most : {es : List Event} (lent plan : Lent) (r : Answer) {h h' : Held} → Now n l limit rule es h → Framed lent plan h h' r → verdictOf r ≡ Accepted → rule ≡ 1 →
@@ -134,12 +139,7 @@ module _ {n l limit rule : ℕ} where
 
   pub books-hold : {es : List Event} {h : Held} → History n l limit rule es h → BooksHold n l limit rule es h
   books-hold {es} {h} past = let now = always past in record {
-    nodes = now .nodes;
-    slots = now .slots;
-    limits = now .limits;
-    rules = now .rules;
-    posts = now .posts;
-    frames = now .frames;
+    run = now-run now;
     long-enough = now .long-enough;
     balance = λ i j hi hj. omega (arith, now .posted i j hi hj, now .sent i j hi hj, now .dropped i j hi hj, now .waiting i j hi hj, now .balance i j hi hj);
     posted = now .posted;

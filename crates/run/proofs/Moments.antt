@@ -10,16 +10,17 @@ use Rattle.sums.specs.Tables.{cell}
 use Rattle.sums.proofs.Tables.{cell-lt}
 use Rattle.star.specs.declared.refusals.Refusal.{Refusal}
 use Rattle.star.specs.declared.refusals.Verdict.the-variants.{Accepted, Refused}
-use Rattle.star.specs.Checks.{Ranges}
 use Rattle.star.specs.Lines.{wholeFrame}
 use Rattle.star.specs.Schedules.{count}
+use Rattle.star.specs.Refusals.{Ranges}
 use Rattle.planner.specs.declared.answers.Report.{Report}
 use Rattle.planner.specs.declared.answers.Answer.the-variants as answer
-use Rattle.planner.specs.Plans.{Lent, PlanDone}
+use Rattle.planner.specs.Plans.{PlanDone}
+use Rattle.planner.specs.Lent.{Lent}
 use Rattle.planner.proofs.PlanLaws.{plan-below}
 use Rattle.books.specs.Queues.{more, overflowed, queued, served}
 use Rattle.books.proofs.QueueLaws.{zeroed-cell, more-cell, overflowed-cell, queued-cell, served-cell}
-use Rattle.calls.specs.Held.{Held, LongEnough, afterFresh, afterPost, afterFrame}
+use Rattle.calls.specs.Held.{Held, LongEnough}
 use Rattle.calls.specs.Runs.{Freshened, Posted, Framed}
 use Rattle.calls.proofs.Verdicts.{fresh-accepted, post-accepted}
 use Rattle.run.specs.Histories.{Event, posting, framing, restarting, Happens, History, started, continued, arrived, carried, queue, exceeded, postsOf, framesOf}

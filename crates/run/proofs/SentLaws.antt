@@ -12,7 +12,8 @@ use Rattle.star.specs.Schedules.{ConflictFree, count, refusedBy}
 use Rattle.star.proofs.LineLaws.{total-ext}
 use Rattle.least.specs.Least.{keptFrom}
 use Rattle.least.proofs.LeastIsLeast.{least-is-least-whole}
-use Rattle.planner.specs.Plans.{Lent, Plan}
+use Rattle.planner.specs.Plans.{Plan}
+use Rattle.planner.specs.Lent.{Lent}
 use Rattle.run.specs.Histories.{met, given}
 
 -- the schedule gives what is kept

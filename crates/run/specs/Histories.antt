@@ -11,9 +11,9 @@ use Rattle.star.specs.declared.refusals.Verdict.{Verdict}
 use Rattle.star.specs.declared.refusals.Verdict.the-variants.{Accepted, Refused}
 use Rattle.star.specs.Schedules.{ConflictFree, count}
 use Rattle.planner.specs.declared.answers.Answer.{Answer}
-use Rattle.planner.specs.Plans.{verdictOf, Lent}
-use Rattle.calls.specs.Held.{Held, LongEnough}
-use Rattle.calls.specs.Checks.{disagreeing}
+use Rattle.planner.specs.Plans.{verdictOf}
+use Rattle.planner.specs.Lent.{Lent}
+use Rattle.calls.specs.Held.{Held, LongEnough, disagreeing}
 use Rattle.calls.specs.Runs.{Freshened, Posted, Framed}
 
 -- What happens to a run: a post of arrivals and its verdict; a frame with the tables lent to it, what they then hold, and its answer; or a fresh
@@ -106,12 +106,7 @@ pub record SendsMost (n l : ℕ) (waits : ℕ → ℕ → ℕ) (schedule : List 
 -- ---- the books of a run hold, at every moment of its history (`books-hold` in proofs/HistoryLaws.antt)
 pub record BooksHold (n l limit rule : ℕ) (es : List Event) (h : Held) : Type 0 where
   -- the record keeps N, L, B and the rule, and counts the accepted posts and frames
-  pub nodes : h .run .nodes ≡ n
-  pub slots : h .run .slots ≡ l
-  pub limits : h .run .limit ≡ limit
-  pub rules : h .run .rule ≡ rule
-  pub posts : h .run .posts ≡ postsOf es
-  pub frames : h .run .frames ≡ framesOf es
+  pub run : h .run ≡ record { nodes = n; slots = l; limit = limit; rule = rule; posts = postsOf es; frames = framesOf es }
   -- the tables are as long as the run needs them
   pub long-enough : LongEnough n h
   -- nothing is lost: posted = sent + dropped + waiting

@@ -6,11 +6,12 @@ use lib.ListN.{length, getD, take}
 use Rattle.star.specs.declared.refusals.Refusal.{Refusal}
 use Rattle.star.specs.declared.refusals.Verdict.{Verdict}
 use Rattle.star.specs.declared.refusals.Verdict.the-variants.{Accepted, Refused}
-use Rattle.star.specs.Checks.{Ranges}
 use Rattle.star.specs.Tables.{Alike}
+use Rattle.star.specs.Refusals.{Ranges}
 use Rattle.planner.specs.declared.answers.Answer.{Answer}
-use Rattle.planner.specs.Plans.{verdictOf, Lent, LentRoom, PlanResult}
+use Rattle.planner.specs.Plans.{verdictOf, PlanResult}
 use Rattle.planner.specs.Theorems.{SameResults, SameAsNeeded}
+use Rattle.planner.specs.Lent.{Lent, LentRoom}
 use Rattle.calls.specs.Held.{Held, LongEnough, HeldAlike}
 use Rattle.calls.specs.Runs.{Freshened, Posted, Framed}
 

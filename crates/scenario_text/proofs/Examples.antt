@@ -1,7 +1,8 @@
 -- The printed lines and the room for them at their edges, by computation. Assumes nothing.
 use mathlib.Core.Path.{_≡_, refl}
 use mathlib.Core.List.{[], _∷_, map}
-use Rattle.star.specs.Refusals.{accepted, check, notice, refuse, verdictNumber}
+use Rattle.star.specs.Refusals.{accepted, check, notice, verdictNumber}
+use Rattle.star.specs.Checks.{refuse}
 use Rattle.pieces.specs.Bytes.{bytes}
 use Rattle.pieces.specs.Pieces.{joinTo}
 use Rattle.pieces.specs.Text.{decimal, digitsIn, marked}

@@ -7,7 +7,8 @@ use Rattle.star.specs.declared.refusals.Refusal.{Refusal}
 use Rattle.star.specs.declared.refusals.Refusal.the-variants.{TableShort}
 use Rattle.star.specs.declared.refusals.Verdict.{Verdict}
 use Rattle.star.specs.declared.refusals.Verdict.the-variants.{Accepted, Refused}
-use Rattle.star.specs.Refusals.{refusalNumber, refusalPlace, Notice, accepted, check, refuse, Promise, short}
+use Rattle.star.specs.Refusals.{refusalNumber, refusalPlace, Notice, accepted, check, Promise, short}
+use Rattle.star.specs.Checks.{refuse}
 use Rattle.pieces.specs.Pieces.{Answered}
 use Rattle.pieces.specs.Text.{badInput, refusalText}
 use Rattle.calls.specs.Held.{Held}

@@ -8,10 +8,11 @@ use Rattle.sums.specs.Searches.{firstBelow, firstFrom}
 use Rattle.sums.specs.Tables.{cell, tab, written}
 use Rattle.star.specs.declared.refusals.Verdict.{Verdict}
 use Rattle.star.specs.declared.refusals.Verdict.the-variants.{Accepted}
-use Rattle.star.specs.Refusals.{Notice, notice, noticeOf, refuse, then, firstAbove}
+use Rattle.star.specs.Refusals.{Notice, notice, noticeOf, firstAbove}
 use Rattle.star.specs.Lines.{slack, wholeFrame, lineSum, onLine, sourceOn, destinationOn}
-use Rattle.star.specs.Checks.{sizesVerdict, demandShortVerdict, demandAboveVerdict}
-use Rattle.slacks.specs.Slacks.{slacksVerdict, SlacksResult}
+use Rattle.star.specs.Checks.{sizesVerdict, demandShortVerdict, demandAboveVerdict, refuse, then}
+use Rattle.slacks.specs.Slacks.{SlacksResult}
+use Rattle.slacks.specs.Checks.{slacksVerdict}
 
 abbrev given : (n l : ℕ) (d : List ℕ) (cells : ℕ) → Notice
 given n l d cells = noticeOf (slacksVerdict n l d cells)

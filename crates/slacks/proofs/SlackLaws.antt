@@ -4,11 +4,13 @@ use mathlib.Core.Path.{_≡_, refl}
 use mathlib.Core.List.{List}
 use borrow.Author.Tests.{ltb-false}
 use Rattle.star.specs.declared.refusals.Verdict.the-variants.{Accepted}
-use Rattle.star.specs.Tables.{Square, Demands}
-use Rattle.star.specs.Refusals.{noticeOf, then}
-use Rattle.star.specs.Checks.{sizesVerdict, demandShortVerdict, demandAboveVerdict, Sizes}
+use Rattle.star.specs.Tables.{Demands}
+use Rattle.star.specs.Refusals.{noticeOf, Sizes}
+use Rattle.star.specs.Checks.{sizesVerdict, demandShortVerdict, demandAboveVerdict, then}
+use Rattle.star.specs.Rooms.{Square}
 use Rattle.star.proofs.RefusalLaws.{in-numbers, passed, then-passed, group-in-numbers, sized, long-demand, within}
-use Rattle.slacks.specs.Slacks.{slacksVerdict, slacksNotice}
+use Rattle.slacks.specs.Slacks.{slacksNotice}
+use Rattle.slacks.specs.Checks.{slacksVerdict}
 
 pub slacks-notice : (n l : ℕ) (d : List ℕ) (cells : ℕ) → noticeOf (slacksVerdict n l d cells) ≡ slacksNotice n l d cells
 unfolding slacksVerdict slacksNotice sizesVerdict demandShortVerdict demandAboveVerdict then

@@ -10,11 +10,13 @@ use Rattle.star.specs.declared.refusals.Verdict.{Verdict}
 use Rattle.star.specs.declared.refusals.Verdict.the-variants.{Accepted, Refused}
 use Rattle.star.specs.Tables.{Demands, Alike}
 use Rattle.star.specs.Lines.{wholeFrame}
-use Rattle.star.specs.Checks.{demandShortVerdict, demandAboveVerdict, Sizes}
+use Rattle.star.specs.Checks.{demandShortVerdict, demandAboveVerdict}
+use Rattle.star.specs.Refusals.{Sizes}
 use Rattle.star.proofs.RefusalLaws.{passes, then-goes, sizes-fit, demand-fits, demand-within}
 use Rattle.star.proofs.AlikeLaws.{alike-cell, alike-above, both-long, slack-ext}
-use Rattle.slacks.specs.Slacks.{slacksVerdict, SlacksResult}
+use Rattle.slacks.specs.Slacks.{SlacksResult}
 use Rattle.slacks.specs.Theorems.{SlacksTheorems}
+use Rattle.slacks.specs.Checks.{slacksVerdict}
 use Rattle.slacks.proofs.SlackLaws.{slacks-fits}
 
 -- numbers in their ranges, tables that are long enough and no demand above 65,535

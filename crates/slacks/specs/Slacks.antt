@@ -5,22 +5,12 @@ use mathlib.Core.List.{List}
 use lib.ListN.{length}
 use lib.IntN.{ℤ}
 use Rattle.sums.specs.Tables.{tab, written}
-use Rattle.star.specs.declared.refusals.Refusal.the-variants.{TableShort}
 use Rattle.star.specs.declared.refusals.Verdict.{Verdict}
-use Rattle.star.specs.declared.refusals.Verdict.the-variants.{Accepted}
-use Rattle.star.specs.Refusals.{Notice, accepted, check, refuse, then, Promise, nodesOut, slotsOut, short, someCell, firstAbove}
+use Rattle.star.specs.Refusals.{Notice, accepted, check, Promise, nodesOut, slotsOut, short, someCell, firstAbove}
 use Rattle.star.specs.Lines.{slack, wholeFrame}
-use Rattle.star.specs.Checks.{sizesVerdict, demandShortVerdict, demandAboveVerdict}
+use Rattle.slacks.specs.Checks.{slacksVerdict}
 
--- Slacks 1, 2 | 4 | 5 | 6: N, L, the demand, and how many cells the lent table has.
-unfoldable pub slacksVerdict : (n l : ℕ) (d : List ℕ) (cells : ℕ) → Verdict
-slacksVerdict n l d cells =
-    then (sizesVerdict n l)
-    (then (demandShortVerdict n (length d))
-    (then (refuse (short cells (2 * n)) TableShort Accepted)
-    (demandAboveVerdict n d)))
-
--- the same in document 01's numbers, each with its place
+-- Slacks 1, 2, 4, 5, 6, in document 01's numbers and each with its place: N, L, the demand, and how many cells the lent table has.
 unfoldable pub slacksNotice : (n l : ℕ) (d : List ℕ) (cells : ℕ) → Notice
 slacksNotice n l d cells =
     check (nodesOut n) 1 0

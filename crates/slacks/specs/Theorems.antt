@@ -7,7 +7,7 @@ use lib.ListN.{length, getD, take}
 use Rattle.star.specs.declared.refusals.Verdict.{Verdict}
 use Rattle.star.specs.declared.refusals.Verdict.the-variants.{Accepted}
 use Rattle.star.specs.Tables.{Alike}
-use Rattle.star.specs.Checks.{Sizes}
+use Rattle.star.specs.Refusals.{Sizes}
 use Rattle.slacks.specs.Slacks.{SlacksResult}
 
 pub record SlacksTheorems : Type 0 where

@@ -10,9 +10,11 @@ ghost use mathlib.Core.Path.{_≡_};
 ghost use Prim.Native.Nat.{_*_, _≤_};
 ghost use lib.ListN.{length};
 ghost use Rattle.sums.specs.Tables.{tab, written};
-ghost use Rattle.star.specs.Tables.{Square, Demands, Capacities};
+ghost use Rattle.star.specs.Tables.{Demands};
 ghost use Rattle.star.specs.Lines.{slack};
-ghost use Rattle.slacks.specs.Slacks.{slacksVerdict, SlacksResult};
+ghost use Rattle.star.specs.Rooms.{Square, Capacities};
+ghost use Rattle.slacks.specs.Slacks.{SlacksResult};
+ghost use Rattle.slacks.specs.Checks.{slacksVerdict};
 
 // Writes the slack of each line, given the capacity of each: first the sums of all lines are made.
 fn write_slacks(n: usize, cap: &[u32], demand: &[u32], table: &mut [i32])

@@ -3,10 +3,10 @@ use Prim.Native.Nat.{ℕ, _+_, _*_, _≤_, _<_}
 use mathlib.Core.Path.{_≡_}
 use mathlib.Core.List.{List}
 use lib.ListN.{drop}
-use Rattle.star.specs.Tables.{Square}
+use Rattle.sums.specs.Tables.{cell}
 use Rattle.star.specs.Lines.{wholeFrame, Admissible}
 use Rattle.star.specs.Schedules.{Carries, reconfigurations}
-use Rattle.sums.specs.Tables.{cell}
+use Rattle.star.specs.Rooms.{Square}
 use Rattle.arrays.specs.Arrays.{Frame}
 
 -- The kept matrix is admissible: no line above L.

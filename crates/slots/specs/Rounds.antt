@@ -4,9 +4,9 @@ use mathlib.Core.Path.{_≡_}
 use mathlib.Core.List.{List}
 use lib.ListN.{length, drop}
 use Rattle.sums.specs.Tables.{cell}
-use Rattle.star.specs.Tables.{Square}
 use Rattle.star.specs.Lines.{lineSum}
 use Rattle.star.specs.Schedules.{ConflictFree, count, Carries, reconfigurations}
+use Rattle.star.specs.Rooms.{Square}
 use Rattle.arrays.specs.Arrays.{Frame}
 use Rattle.cells.specs.Cells.{paddedIn, keptIn}
 use Rattle.pairs.specs.Pairs.{Rooms}

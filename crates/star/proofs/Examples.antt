@@ -14,8 +14,8 @@ use Rattle.sums.specs.Tables.{cell, tab, square}
 use Rattle.star.specs.declared.refusals.Refusal.the-variants.{Nodes, Slots, Rule, DemandShort, TableShort, DemandAbove, QueueLimit, BooksDisagree, CallsSpent, BadFile}
 use Rattle.star.specs.declared.refusals.Verdict.the-variants.{Accepted, Refused}
 use Rattle.star.specs.Lines.{sourceOn, destinationOn, onLine, lineSum, total, wholeFrame, slack, overflows, excess, critical, Admissible}
-use Rattle.star.specs.Refusals.{refusalNumber, refusalPlace, verdictNumber, verdictPlace, refuse, then, nodesOut, slotsOut, ruleOut, limitOut, short, spent, someCell, firstAbove}
-use Rattle.star.specs.Checks.{sizesVerdict, ruleVerdict, settingsVerdict, rangesVerdict, demandShortVerdict, demandAboveVerdict}
+use Rattle.star.specs.Refusals.{refusalNumber, refusalPlace, verdictNumber, verdictPlace, nodesOut, slotsOut, ruleOut, limitOut, short, spent, someCell, firstAbove}
+use Rattle.star.specs.Checks.{sizesVerdict, ruleVerdict, settingsVerdict, rangesVerdict, demandShortVerdict, demandAboveVerdict, refuse, then}
 use Rattle.star.specs.Schedules.{ConflictFree, count, refusedBy, differ, reconfigurations}
 
 -- ---- what is refused

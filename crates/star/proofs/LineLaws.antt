@@ -12,8 +12,9 @@ use Rattle.sums.specs.Tables.{cell}
 use Rattle.sums.proofs.Sums.{sum-ext, sum-swap, sum-all-zero, sum-at, sum-most, sum-mono, sum-split}
 use Rattle.sums.proofs.Cases.{by-lt}
 use Rattle.sums.proofs.Tables.{cell-lt, place-split, take-replicate}
-use Rattle.star.specs.Tables.{Demands, Capacities}
+use Rattle.star.specs.Tables.{Demands}
 use Rattle.star.specs.Lines.{sourceOn, destinationOn, onLine, lineSum, total, wholeFrame, slack, overflows, excess}
+use Rattle.star.specs.Rooms.{Capacities}
 use Rattle.star.proofs.SignedLaws.{excess-of-sub, negative-sub}
 
 -- ---- cells of a line

@@ -15,8 +15,8 @@ use Rattle.star.specs.declared.refusals.Refusal.the-variants.{Nodes, Slo
 use Rattle.star.specs.declared.refusals.Verdict.{Verdict}
 use Rattle.star.specs.declared.refusals.Verdict.the-variants.{Accepted, Refused}
 use Rattle.star.specs.Tables.{Demands}
-use Rattle.star.specs.Refusals.{Notice, noticeOf, check, refusalNumber, refusalPlace, refuse, then, Promise, outside, nodesOut, slotsOut, ruleOut, limitOut, someCell, firstAboveIn, firstAbove}
-use Rattle.star.specs.Checks.{sizesVerdict, ruleVerdict, settingsVerdict, rangesVerdict, demandShortVerdict, demandAboveVerdict, Sizes, Ranges}
+use Rattle.star.specs.Refusals.{Notice, noticeOf, check, refusalNumber, refusalPlace, Promise, outside, nodesOut, slotsOut, ruleOut, limitOut, someCell, firstAboveIn, firstAbove, Sizes, Ranges}
+use Rattle.star.specs.Checks.{sizesVerdict, ruleVerdict, settingsVerdict, rangesVerdict, demandShortVerdict, demandAboveVerdict, refuse, then}
 
 pub fires : {b : Bool} {r : Refusal} (later : Verdict) → b ≡ true → Refused r ≡ refuse b r later
 unfolding refuse

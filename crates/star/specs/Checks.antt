@@ -1,10 +1,23 @@
--- The groups of checks that entries share, each by itself; Accepted where none fires.
-use Prim.Native.Nat.{ℕ, _*_, _≤_}
+-- Checks by the names of their refusals: how they follow each other, and the groups that entries share, each by itself; Accepted where none fires.
+use Prim.Native.Nat.{ℕ, _*_}
+use mathlib.Core.Bool.{Bool, true, false}
 use mathlib.Core.List.{List}
+use Rattle.star.specs.declared.refusals.Refusal.{Refusal}
 use Rattle.star.specs.declared.refusals.Refusal.the-variants.{Nodes, Slots, Rule, DemandShort, DemandAbove, QueueLimit}
 use Rattle.star.specs.declared.refusals.Verdict.{Verdict}
-use Rattle.star.specs.declared.refusals.Verdict.the-variants.{Accepted}
-use Rattle.star.specs.Refusals.{refuse, then, nodesOut, slotsOut, ruleOut, limitOut, short, someCell, firstAbove}
+use Rattle.star.specs.declared.refusals.Verdict.the-variants.{Accepted, Refused}
+use Rattle.star.specs.Refusals.{nodesOut, slotsOut, ruleOut, limitOut, short, someCell, firstAbove}
+
+-- The first that fires is given, by its name. A chain of names says what the chain of numbers says, since a name has its number and its place
+-- (`in-numbers` in proofs/RefusalLaws.antt).
+unfoldable pub refuse : Bool → Refusal → Verdict → Verdict
+refuse true r later = Refused r
+refuse false r later = later
+
+-- Groups of checks after each other: the later ones are made where the first ones have passed.
+unfoldable pub then : (first later : Verdict) → Verdict
+then Accepted later = later
+then (Refused r) later = Refused r
 
 -- 1, 2
 unfoldable pub sizesVerdict : (n l : ℕ) → Verdict
@@ -29,17 +42,3 @@ demandShortVerdict n cells = refuse (short cells (n * n)) DemandShort Accepted
 -- 6
 unfoldable pub demandAboveVerdict : (n : ℕ) (d : List ℕ) → Verdict
 demandAboveVerdict n d = refuse (someCell (n * n) (firstAbove n d)) (DemandAbove (firstAbove n d)) Accepted
-
--- N and L within their ranges
-pub record Sizes (n l : ℕ) : Type 0 where
-  pub some-nodes : 1 ≤ n
-  pub nodes : n ≤ 64
-  pub some-slots : 1 ≤ l
-  pub slots : l ≤ 1024
-
--- N, L, the rule and B within their ranges
-pub record Ranges (n l rule limit : ℕ) : Type 0 where
-  pub sizes : Sizes n l
-  pub known-rule : rule ≤ 1
-  pub some-limit : 1 ≤ limit
-  pub known-limit : limit ≤ 65535

@@ -1,5 +1,5 @@
 -- What is refused: each refusal's number and place, and when it fires.
-use Prim.Native.Nat.{ℕ, _*_}
+use Prim.Native.Nat.{ℕ, _*_, _≤_}
 use mathlib.Core.Path.{_≡_}
 use mathlib.Core.Bool.{Bool, true, false, _||_}
 use mathlib.Core.List.{List}
@@ -11,41 +11,6 @@ use Rattle.star.specs.declared.refusals.Refusal.the-variants.{Nodes, Slo
 use Rattle.star.specs.declared.refusals.Verdict.{Verdict}
 use Rattle.star.specs.declared.refusals.Verdict.the-variants.{Accepted, Refused}
 
--- the table's column "No.", and request 101's 10
-abbrev pub refusalNumber : Refusal → ℕ
-refusalNumber Nodes = 1
-refusalNumber Slots = 2
-refusalNumber Rule = 3
-refusalNumber DemandShort = 4
-refusalNumber TableShort = 5
-refusalNumber (DemandAbove c) = 6
-refusalNumber QueueLimit = 7
-refusalNumber (BooksDisagree c) = 8
-refusalNumber CallsSpent = 9
-refusalNumber (BadFile e) = 10
-
--- the table's column "Place": 0, or the cell; for 10 the entry of the file
-abbrev pub refusalPlace : Refusal → ℕ
-refusalPlace Nodes = 0
-refusalPlace Slots = 0
-refusalPlace Rule = 0
-refusalPlace DemandShort = 0
-refusalPlace TableShort = 0
-refusalPlace (DemandAbove c) = c
-refusalPlace QueueLimit = 0
-refusalPlace (BooksDisagree c) = c
-refusalPlace CallsSpent = 0
-refusalPlace (BadFile e) = e
-
--- An accepted call reports number 0 and place 0.
-abbrev pub verdictNumber : Verdict → ℕ
-verdictNumber Accepted = 0
-verdictNumber (Refused r) = refusalNumber r
-
-abbrev pub verdictPlace : Verdict → ℕ
-verdictPlace Accepted = 0
-verdictPlace (Refused r) = refusalPlace r
-
 -- what is given: a number and a place of the table
 pub record Notice : Type 0 where
   pub number : ℕ
@@ -54,31 +19,47 @@ pub record Notice : Type 0 where
 abbrev pub notice : (number place : ℕ) → Notice
 notice number place = record { number = number; place = place }
 
-abbrev pub noticeOf : Verdict → Notice
-noticeOf v = notice (verdictNumber v) (verdictPlace v)
+-- the table's columns "No." and "Place": 0, or the cell; and request 101's 10, whose place is the entry of the file
+abbrev pub refusalNotice : Refusal → Notice
+refusalNotice Nodes = notice 1 0
+refusalNotice Slots = notice 2 0
+refusalNotice Rule = notice 3 0
+refusalNotice DemandShort = notice 4 0
+refusalNotice TableShort = notice 5 0
+refusalNotice (DemandAbove c) = notice 6 c
+refusalNotice QueueLimit = notice 7 0
+refusalNotice (BooksDisagree c) = notice 8 c
+refusalNotice CallsSpent = notice 9 0
+refusalNotice (BadFile e) = notice 10 e
+
+abbrev pub refusalNumber : Refusal → ℕ
+refusalNumber r = refusalNotice r .number
+
+abbrev pub refusalPlace : Refusal → ℕ
+refusalPlace r = refusalNotice r .place
 
 -- An accepted call reports number 0 and place 0.
 abbrev pub accepted : Notice
 accepted = notice 0 0
+
+abbrev pub noticeOf : Verdict → Notice
+noticeOf Accepted = accepted
+noticeOf (Refused r) = refusalNotice r
+
+abbrev pub verdictNumber : Verdict → ℕ
+verdictNumber v = noticeOf v .number
+
+abbrev pub verdictPlace : Verdict → ℕ
+verdictPlace v = noticeOf v .place
 
 -- The first that fires is given: a check's own number and place where it fires, and else what the later checks give.
 unfoldable pub check : (fires : Bool) (number place : ℕ) → Notice → Notice
 check true number place later = notice number place
 check false number place later = later
 
--- The same with refusals by their names. A chain of both says one thing, since a name has its number and its place (`in-numbers` in
--- proofs/RefusalLaws.antt).
-unfoldable pub refuse : Bool → Refusal → Verdict → Verdict
-refuse true r later = Refused r
-refuse false r later = later
-
--- Groups of checks after each other: the later ones are made where the first ones have passed.
-unfoldable pub then : (first later : Verdict) → Verdict
-then Accepted later = later
-then (Refused r) later = Refused r
-
 -- What every entry promises, given the verdict that is due and its number and place, what may change, before and after the call, and what an
--- accepted call has done: it gives that verdict, what it accepts is done, and a refusal leaves everything as before.
+-- accepted call has done: it gives that verdict, what it accepts is done, and a refusal leaves everything as before. Number and place tell the
+-- verdict, since a refusal has its own.
 pub record Promise {S : Type 0} (v due : Verdict) (numbers : Notice) (before after : S) (Done : Type 0) : Type 0 where
   pub answer : v ≡ due
   pub notice : noticeOf v ≡ numbers
@@ -124,3 +105,17 @@ firstAboveIn count cells = firstBelow count (λ p. ltb 65535 (getD cells p 0))
 -- A demand or arrival above 65,535; the first such cell in row order gives the place. Here that cell, or N×N where there is none.
 unfoldable pub firstAbove : (n : ℕ) (d : List ℕ) → ℕ
 firstAbove n d = firstAboveIn (n * n) d
+
+-- N and L within their ranges
+pub record Sizes (n l : ℕ) : Type 0 where
+  pub some-nodes : 1 ≤ n
+  pub nodes : n ≤ 64
+  pub some-slots : 1 ≤ l
+  pub slots : l ≤ 1024
+
+-- N, L, the rule and B within their ranges
+pub record Ranges (n l rule limit : ℕ) : Type 0 where
+  pub sizes : Sizes n l
+  pub known-rule : rule ≤ 1
+  pub some-limit : 1 ≤ limit
+  pub known-limit : limit ≤ 65535

@@ -5,8 +5,8 @@ use crate::refusals::Verdict;
 ghost use mathlib.Core.Path.{_≡_};
 ghost use Prim.Native.Nat.{_≤_};
 ghost use Rattle.star.specs.Refusals.{outside};
-ghost use Rattle.star.specs.Tables.{Square};
 ghost use Rattle.star.specs.Checks.{sizesVerdict, ruleVerdict, settingsVerdict, rangesVerdict, demandShortVerdict, demandAboveVerdict};
+ghost use Rattle.star.specs.Rooms.{Square};
 
 // Whether a number is outside its range.
 fn outside(low: u32, high: u32, x: u32) -> bool

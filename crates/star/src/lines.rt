@@ -8,11 +8,12 @@ ghost use lib.ListN.{length, set};
 ghost use lib.IntN.{subℕ};
 ghost use lib.Signed.{mag};
 ghost use Rattle.sums.specs.Sums.{bit};
-ghost use Rattle.star.specs.Tables.{Square, Demands};
+ghost use Rattle.star.specs.Tables.{Demands};
 ghost use Rattle.star.specs.Lines.{sourceOn, destinationOn, crossing, onLine, lineSum, excessOf};
 ghost use Rattle.star.specs.LineSums.{Summed, Unsummed, SummedTo};
 ghost use Rattle.star.specs.Refusals.{firstAbove};
 ghost use Rattle.star.specs.RowSearches.{aboveTo, FirstInRow};
+ghost use Rattle.star.specs.Rooms.{Square};
 
 // The line that crosses a line at its t-th pair.
 pub fn crossing(n: usize, line: usize, t: usize) -> usize

@@ -3,7 +3,7 @@ ghost use mathlib.Core.Path.{_≡_};
 ghost use Prim.Native.Nat.{_+_, _*_, _<_, _≤_};
 ghost use lib.ListN.{length, getD, set, replicate};
 ghost use Rattle.sums.specs.Tables.{cell, tab, written};
-ghost use Rattle.star.specs.Tables.{Square};
+ghost use Rattle.star.specs.Rooms.{Square};
 
 // What the pair of source i and destination j has.
 pub fn get(n: usize, table: &[u32], i: usize, j: usize) -> u32

@@ -17,14 +17,15 @@ use Rattle.sums.proofs.Cases.{by-eq}
 use Rattle.sums.proofs.Searches.{some-none}
 use Rattle.sums.proofs.Tables.{cell-lt, square-ext, take-cell}
 use Rattle.star.specs.Lines.{total, wholeFrame}
-use Rattle.star.specs.Checks.{Sizes}
 use Rattle.star.specs.Schedules.{Carries, count, differ, reconfigurations}
+use Rattle.star.specs.Refusals.{Sizes}
 use Rattle.star.proofs.LineLaws.{line-zero}
 use Rattle.fair.specs.Fair.{fairKept}
 use Rattle.fair.proofs.Steps.{fair-length, fair-below}
 use Rattle.least.specs.Least.{Greatest, keptFrom}
 use Rattle.least.proofs.Keeping.{length-kept, kept-below}
-use Rattle.planner.specs.Plans.{Lent, Plan}
+use Rattle.planner.specs.Plans.{Plan}
+use Rattle.planner.specs.Lent.{Lent}
 use Rattle.worked.specs.Worked.{NothingAsked}
 
 -- ---- what is kept

@@ -13,9 +13,9 @@ use Rattle.sums.specs.Tables.{cell, tab, square, written}
 use Rattle.sums.proofs.Searches.{allBelow}
 use Rattle.star.specs.declared.refusals.Verdict.{Verdict}
 use Rattle.star.specs.declared.refusals.Verdict.the-variants.{Accepted}
-use Rattle.star.specs.Refusals.{check, refuse, then, firstAbove}
+use Rattle.star.specs.Refusals.{check, firstAbove}
 use Rattle.star.specs.Lines.{wholeFrame, lineSum, onLine, sourceOn, destinationOn, total, slack, excess}
-use Rattle.star.specs.Checks.{sizesVerdict, ruleVerdict, settingsVerdict, rangesVerdict, demandShortVerdict, demandAboveVerdict}
+use Rattle.star.specs.Checks.{sizesVerdict, ruleVerdict, settingsVerdict, rangesVerdict, demandShortVerdict, demandAboveVerdict, refuse, then}
 use Rattle.star.specs.Schedules.{Carries, count, differ, reconfigurations}
 use Rattle.star.proofs.RefusalLaws.{promise-done}
 use Rattle.flow.specs.Flows.{cut}
@@ -24,13 +24,14 @@ use Rattle.least.specs.Least.{Greatest, keptFrom, keptCell, left, longer, share
 use Rattle.planner.specs.declared.answers.Report.{Report}
 use Rattle.planner.specs.declared.answers.Answer.{Answer}
 use Rattle.planner.specs.declared.answers.Answer.the-variants.{Planned}
-use Rattle.planner.specs.Plans.{Lent, lent, lentShortVerdict, LentRoom}
+use Rattle.planner.specs.Lent.{Lent, lent, LentRoom}
+use Rattle.planner.specs.Checks.{lentShortVerdict}
 use Rattle.books.specs.Books.{booksAgree, firstDisagreeing}
 use Rattle.books.specs.Queues.{zeroed, more, overflowed, queued, served}
 use Rattle.calls.specs.declared.record.Run.{Run}
 use Rattle.calls.specs.Held.{Held}
-use Rattle.calls.specs.Checks.{heldShortVerdict, agreementVerdict, countVerdict}
-use Rattle.calls.specs.Runs.{freshVerdict, freshNotice, Freshened, postVerdict, postNotice, Posted, frameVerdict, Framed}
+use Rattle.calls.specs.Checks.{heldShortVerdict, agreementVerdict, countVerdict, freshVerdict, postVerdict, frameVerdict}
+use Rattle.calls.specs.Runs.{freshNotice, Freshened, postNotice, Posted, Framed}
 use Rattle.calls.proofs.Verdicts.{frame-accepted, frame-accepts, frame-notice}
 use Rattle.worked.specs.Worked.{ofOne, RunLine}
 use Rattle.worked.proofs.Marks.{by-marks}

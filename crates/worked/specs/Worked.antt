@@ -7,12 +7,13 @@ use Rattle.sums.specs.Tables.{cell}
 use Rattle.star.specs.declared.refusals.Verdict.{Verdict}
 use Rattle.star.specs.declared.refusals.Verdict.the-variants.{Accepted}
 use Rattle.star.specs.Lines.{total, wholeFrame}
-use Rattle.star.specs.Checks.{Sizes}
 use Rattle.star.specs.Schedules.{reconfigurations}
+use Rattle.star.specs.Refusals.{Sizes}
 use Rattle.fair.specs.Fair.{fairKept}
 use Rattle.least.specs.Least.{Greatest, keptFrom}
 use Rattle.planner.specs.declared.answers.Answer.{Answer}
-use Rattle.planner.specs.Plans.{verdictOf, Lent, lent, LentRoom, Plan}
+use Rattle.planner.specs.Plans.{verdictOf, Plan}
+use Rattle.planner.specs.Lent.{Lent, lent, LentRoom}
 use Rattle.calls.specs.declared.record.Run.{Run}
 use Rattle.calls.specs.Held.{Held, held}
 use Rattle.calls.specs.Runs.{Freshened, Posted, Framed}

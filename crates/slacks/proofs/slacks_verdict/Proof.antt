@@ -3,7 +3,7 @@ use mathlib.Core.Path.{refl, sym, _∙_}
 use borrow.Author.Needs.{needs}
 use borrow.Author.Tests.{lt-ltb, le-ltb}
 use Rattle.star.proofs.RefusalLaws.{fires, passes, then-stops, then-goes, sized, long-demand}
-use Rattle.slacks.specs.Slacks.{slacksVerdict}
+use Rattle.slacks.specs.Checks.{slacksVerdict}
 use Rattle.slacks.proofs.slacks_verdict.Statement.{statement}
 use Rattle.slacks.proofs.slacks_verdict.Tie as tie
 

@@ -1,6 +1,6 @@
 use Rattle.calls.proofs.Outcomes.{frame-refused, frame-fits, frame-done, frame-room, frame-takes, frame-adds}
 use Rattle.calls.specs.Held.{held}
-use Rattle.planner.specs.Plans.{lent}
+use Rattle.planner.specs.Lent.{lent}
 use borrow.Author.Needs.{needs}
 use Rattle.calls.proofs.frame.frame_on.Statement.{statement}
 use Rattle.calls.proofs.frame.frame_on.Tie as tie

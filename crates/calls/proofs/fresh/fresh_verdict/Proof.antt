@@ -1,6 +1,6 @@
 use mathlib.Core.Path.{sym, _∙_}
 use Rattle.star.proofs.RefusalLaws.{then-stops, then-goes, ranged}
-use Rattle.calls.specs.Runs.{freshVerdict}
+use Rattle.calls.specs.Checks.{freshVerdict}
 use borrow.Author.Needs.{needs}
 use Rattle.calls.proofs.fresh.fresh_verdict.Statement.{statement}
 use Rattle.calls.proofs.fresh.fresh_verdict.Tie as tie

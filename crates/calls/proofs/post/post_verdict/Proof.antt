@@ -1,8 +1,8 @@
 use mathlib.Core.Path.{sym, _∙_}
 use Rattle.star.proofs.RefusalLaws.{then-stops, then-goes, ranged, long-demand}
 use Rattle.calls.proofs.Verdicts.{long-held, held-tables}
-use Rattle.calls.specs.Runs.{postVerdict}
 use Rattle.calls.specs.Held.{held}
+use Rattle.calls.specs.Checks.{postVerdict}
 use borrow.Author.Needs.{needs}
 use Rattle.calls.proofs.post.post_verdict.Statement.{statement}
 use Rattle.calls.proofs.post.post_verdict.Tie as tie

@@ -5,7 +5,7 @@ use mathlib.Core.Path.{refl}
 use borrow.Author.Tests.{lt-ltb, le-ltb}
 use Rattle.sums.proofs.Tables.{mul-small}
 use Rattle.star.proofs.RefusalLaws.{fires, passes, first-of, second-of, neither}
-use Rattle.planner.specs.Plans.{lentShortVerdict}
+use Rattle.planner.specs.Checks.{lentShortVerdict}
 use Rattle.planner.proofs.checks.lent_short.Statement.{statement}
 use Rattle.planner.proofs.checks.lent_short.Tie as tie
 

@@ -1,7 +1,7 @@
 -- `plan_verdict` meets its contract: the five groups in their order. Assumes nothing.
 use mathlib.Core.Path.{sym, _∙_}
 use Rattle.star.proofs.RefusalLaws.{then-stops, then-goes, sized, long-demand}
-use Rattle.planner.specs.Plans.{planVerdict}
+use Rattle.planner.specs.Checks.{planVerdict}
 use Rattle.planner.proofs.checks.plan_verdict.Statement.{statement}
 use Rattle.planner.proofs.checks.plan_verdict.Tie as tie
 

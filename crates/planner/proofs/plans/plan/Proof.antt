@@ -1,7 +1,7 @@
 -- `planner::plans::plan` meets its contract: nothing is written after a refusal, and all checks passed give the work its room. Assumes nothing.
 use mathlib.Core.Path.{refl, sym, _∙_}
 use Rattle.star.proofs.RefusalLaws.{promise-refused, promise-done}
-use Rattle.planner.specs.Plans.{lent}
+use Rattle.planner.specs.Lent.{lent}
 use Rattle.planner.proofs.PlanLaws.{plan-notice, plan-room}
 use Rattle.planner.proofs.plans.plan.Statement.{statement}
 use Rattle.planner.proofs.plans.plan.Tie as tie
