@@ -76,12 +76,12 @@ extern "C" {
 /* The slack of each line: L minus the line's sum, negative where the line overflows.
  *
  * demand  N * N cells, read
- * table   2 * N cells in line order, written
+ * slacks  2 * N cells in line order, written
  *
  * Refusals: 1, 2, 4 to 6. */
 uint32_t gyodaebeun_slacks(uint32_t nodes, uint32_t slots,
                            const uint32_t *demand, size_t demand_length,
-                           int32_t *table, size_t table_length,
+                           int32_t *slacks, size_t slacks_length,
                            uint32_t *place);
 
 /* The slots that each pair keeps, and how a frame carries them.

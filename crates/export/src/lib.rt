@@ -18,12 +18,12 @@ pub extern "C" fn gyodaebeun_slacks(
     nodes: u32,
     slots: u32,
     demand: &[u32],
-    table: &mut [i32],
+    slacks: &mut [i32],
     place: &mut u32,
 ) -> u32
-    ensures { λ r. ⌜ Reported (SlacksResult nodes slots (now (demand .entry)) (now (table .entry)) (now (table .exit))) r (now (place .exit)) ⌝ }
+    ensures { λ r. ⌜ Reported (SlacksResult nodes slots (now (demand .entry)) (now (slacks .entry)) (now (slacks .exit))) r (now (place .exit)) ⌝ }
 {
-    let v = slacks::slacks(nodes, slots, demand, table);
+    let v = slacks::slacks(nodes, slots, demand, slacks);
     *place = star::refusals::place(v);
     star::refusals::number(v)
 }

@@ -13,8 +13,8 @@ unsafe extern "C" {
         slots: u32,
         demand: *const u32,
         demand_length: usize,
-        table: *mut i32,
-        table_length: usize,
+        slacks: *mut i32,
+        slacks_length: usize,
         place: *mut u32,
     ) -> u32;
 
