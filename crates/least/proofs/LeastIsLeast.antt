@@ -11,14 +11,13 @@ use Rattle.sums.specs.Tables.{cell, square, tab}
 use Rattle.sums.proofs.Sums.{sum-ext, sum-add, sum-mono, sum-swap}
 use Rattle.sums.proofs.Cases.{by-lt}
 use Rattle.sums.proofs.Tables.{square-cell}
-use Rattle.star.specs.Lines.{lineSum, total, wholeFrame, excess, Admissible}
-use Rattle.star.specs.Schedules.{ConflictFree, count, refusedBy}
+use Rattle.star.specs.Lines.{lineSum, total, excess, Admissible}
+use Rattle.star.specs.Schedules.{count, refusedBy}
 use Rattle.star.proofs.LineLaws.{row-sum, column-sum, excess-is, sum-lines}
 use Rattle.flow.specs.Flows.{Feasible}
 use Rattle.least.specs.Least.{Greatest, keptFrom}
 use Rattle.least.proofs.Withdrawals.{feasible-is-withdrawn, ceiling-at}
 use Rattle.least.proofs.Keeping.{refused-total}
-use Rattle.least.proofs.Counts.{counts-admissible}
 
 -- ---- charging a number to a range, from its start, nowhere more than there is
 unfoldable charge : (x : ℕ → ℕ) (most t : ℕ) → ℕ
@@ -158,7 +157,3 @@ module _ {n : ℕ} {cap d a : List ℕ} (g : Greatest n cap d a) (l : ℕ) (s : 
     excesses-within n l cap d s fits,
     g .most (square n (twice n l cap d s fits)) (feasible-is-withdrawn n cap d (twice-feasible n l cap d s fits)),
   )
-
--- where every line may fill the frame, the slots of every conflict-free schedule respect the capacities
-pub least-is-least-whole : {n l : ℕ} {d a : List ℕ} → Greatest n (wholeFrame n l) d a → (s : List ℕ) → ConflictFree n l s → total n d ≤ total n (keptFrom n (wholeFrame n l) d a) + refusedBy n l d s
-least-is-least-whole {l = l} g s free = least-is-least g l s (counts-admissible free)

@@ -2,7 +2,7 @@
 use Prim.Native.Nat.{ℕ, _*_, _≤_, _<_}
 use mathlib.Core.Path.{_≡_}
 use mathlib.Core.List.{List}
-use lib.ListN.{length, take, drop, replicate}
+use lib.ListN.{length, getD, take, drop, replicate}
 use Rattle.sums.specs.Tables.{cell}
 use Rattle.star.specs.Tables.{Demands}
 use Rattle.star.specs.Lines.{Admissible}

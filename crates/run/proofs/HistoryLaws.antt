@@ -15,6 +15,7 @@ use Rattle.star.specs.declared.refusals.Verdict.{Verdict}
 use Rattle.star.specs.declared.refusals.Verdict.the-variants.{Accepted, Refused}
 use Rattle.star.specs.Refusals.{Notice, noticeOf, check, someCell}
 use Rattle.star.proofs.RefusalLaws.{never}
+use Rattle.least.proofs.Counts.{counts-admissible}
 use Rattle.planner.specs.declared.answers.Answer.{Answer}
 use Rattle.planner.specs.declared.answers.Answer.the-variants as answer
 use Rattle.planner.specs.Plans.{verdictOf}
@@ -132,7 +133,7 @@ module _ {n l limit rule : ℕ} where
         omega (
           arith,
           met-ext n l (cell n (h .waiting)) (queue n l limit es) other (now .waiting),
-          plan-most (rw least at (planned now c .wrote .plan)) other free,
+          plan-most (rw least at (planned now c .wrote .plan)) other (counts-admissible free),
         );
   }
   sends-most lent plan (answer.Refused r) now c e least = absurd (never e)

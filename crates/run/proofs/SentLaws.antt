@@ -1,4 +1,4 @@
--- What a plan's tables say of its demand: under the least rule no conflict-free schedule meets more. A demand that is met and what is refused of it make up the demand; the rest is the laws of the two rules. Assumes nothing.
+-- What a plan's tables say of its demand: under the least rule no schedule meets more. A demand that is met and what is refused of it make up the demand; the rest is the laws of the two rules. Assumes nothing.
 use Prim.Native.Nat.{ℕ, _+_, _-_, _≤_, _<_, min}
 use native.Mathlib.Omega.{arith}
 use mathlib.Core.Path.{_≡_, refl, sym, _∙_, ap}
@@ -7,11 +7,11 @@ use Rattle.sums.specs.Sums.{sumTo}
 use Rattle.sums.specs.Tables.{cell}
 use Rattle.sums.proofs.Sums.{sum-ext, sum-add}
 use Rattle.sums.proofs.Tables.{take-cell}
-use Rattle.star.specs.Lines.{total, wholeFrame}
-use Rattle.star.specs.Schedules.{ConflictFree, count, refusedBy}
+use Rattle.star.specs.Lines.{total}
+use Rattle.star.specs.Schedules.{count, Respects, refusedBy}
 use Rattle.star.proofs.LineLaws.{total-ext}
 use Rattle.least.specs.Least.{keptFrom}
-use Rattle.least.proofs.LeastIsLeast.{least-is-least-whole}
+use Rattle.least.proofs.LeastIsLeast.{least-is-least}
 use Rattle.planner.specs.Plans.{Plan}
 use Rattle.planner.specs.Lent.{Lent}
 use Rattle.run.specs.Histories.{met, given}
@@ -32,14 +32,13 @@ pub met-ext : (n l : ℕ) (f g : ℕ → ℕ → ℕ) (s : List ℕ) → ((i j :
 unfolding met
 met-ext n l f g s same = sum-ext n _ _ (λ i hi. sum-ext n _ _ (λ j hj. ap (λ x. min x (count n l s i j)) (same i j hi hj)))
 
--- under the least rule no conflict-free schedule of L slots meets more of the demand than the plan's gives
-pub plan-most : {n l : ℕ} {d : List ℕ} {k : Lent} → Plan n l 1 (wholeFrame n l) d k →
-    (other : List ℕ) → ConflictFree n l other → met n l (cell n d) other ≤ given n l (k .schedule)
-plan-most {n} {l} {d} {k} p other free = let g = p .least refl in
+-- under the least rule no schedule of L slots that respects the capacities meets more of the demand than the plan's gives
+pub plan-most : {n l : ℕ} {cap d : List ℕ} {k : Lent} → Plan n l 1 cap d k → (other : List ℕ) → Respects n l cap other → met n l (cell n d) other ≤ given n l (k .schedule)
+plan-most {n} {l} {cap} {d} {k} p other fits = let g = p .least refl in
     omega (
       arith,
-      least-is-least-whole (g .0) other free,
+      least-is-least (g .0) l other fits,
       met-and-refused n l d other,
       given-kept p,
-      total-ext n (k .kept) (keptFrom n (wholeFrame n l) d (k .withdrawn)) (take-cell n (k .kept) _ (g .1)),
+      total-ext n (k .kept) (keptFrom n cap d (k .withdrawn)) (take-cell n (k .kept) _ (g .1)),
     )

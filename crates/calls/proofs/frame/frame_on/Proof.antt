@@ -1,76 +1,56 @@
-use Rattle.calls.proofs.Outcomes.{frame-refused, frame-fits, frame-done, frame-room, frame-takes, frame-adds}
-use Rattle.calls.specs.Held.{held}
-use Rattle.planner.specs.Lent.{lent}
+-- `frame_on` meets its contract: nothing changes after a refusal; else the queues are planned, and what is kept leaves them. Assumes nothing.
 use borrow.Author.Needs.{needs}
+use Rattle.planner.specs.Lent.{lent}
+use Rattle.calls.specs.Held.{held}
+use Rattle.calls.proofs.Outcomes.{frame-refused, frame-fits, frame-done, frame-room, frame-takes, frame-adds}
 use Rattle.calls.proofs.frame.frame_on.Statement.{statement}
 use Rattle.calls.proofs.frame.frame_on.Tie as tie
-use Rattle.calls.proofs.frame.frame_on.Reads as reads
-use Rattle.calls.proofs.frame.frame_on.Lts as lts
-use Rattle.books.proofs.amounts.add.Reads as add-reads
-use Rattle.books.proofs.queues.dequeue.Reads as dequeue-reads
-use Rattle.calls.proofs.frame.frame_verdict.Reads as frame-verdict-reads
-use Rattle.planner.proofs.plans.write_whole.Reads as write-whole-reads
 
--- src/frame.rt:65:9
 frame-verdict-requires : tie.Need-frame-verdict-requires
 frame-verdict-requires c κs = search needs
 
--- src/frame.rt:75:31
 enum-known-v : tie.Need-enum-known-v
 enum-known-v c = search needs
 
--- src/frame.rt:76:9
 same-length : tie.Need-same-length
 same-length c = search needs
 
--- src/frame.rt:76:9
 same-length-2 : tie.Need-same-length-2
 same-length-2 c = search needs
 
--- src/frame.rt:76:9
 returns : tie.Need-returns
 returns c = let a = c .before .before .before .before .before .before .before .before .before .before .before .before .before .args in frame-refused (lent (a .kept .now) (a .withdrawn .now) (a .schedule .now)) (held (a .old) (a .waiting .now) (a .posted .now) (a .sent .now) (a .dropped .now)) (c .before .before .before .frame-verdict .ensures) (c .before .v .given .1)
 
 enum-told : tie.Need-enum-told
 enum-told c = search needs
 
--- src/frame.rt:78:9
 write-whole-requires : tie.Need-write-whole-requires
 write-whole-requires c κs = let a = c .before .before .before .before .before .before .before .before .before .before .before .before .before .before .before .before .args in frame-room (frame-fits (lent (a .kept .now) (a .withdrawn .now) (a .schedule .now)) (held (a .old) (a .waiting .now) (a .posted .now) (a .sent .now) (a .dropped .now)) (c .before .before .before .before .before .before .frame-verdict .ensures) (c .before .before .before .before .enum-told .given .1))
 
--- src/frame.rt:87:13
 cast-n : tie.Need-cast-n
 cast-n c = search needs
 
--- src/frame.rt:88:5
 dequeue-requires : tie.Need-dequeue-requires
 dequeue-requires c κs = let a = c .before .before .before .before .before .before .before .before .before .before .before .before .before .before .before .before .before .before .before .before .before .before .before .before .before .before .args in frame-takes (frame-fits (lent (a .kept .now) (a .withdrawn .now) (a .schedule .now)) (held (a .old) (a .waiting .now) (a .posted .now) (a .sent .now) (a .dropped .now)) (c .before .before .before .before .before .before .before .before .before .before .before .before .before .before .before .before .frame-verdict .ensures) (c .before .before .before .before .before .before .before .before .before .before .before .before .before .before .enum-told .given .1)) (c .before .before .before .before .before .before .before .before .before .write-whole .ensures)
 
--- src/frame.rt:89:5
 add-requires : tie.Need-add-requires
 add-requires c κs = let a = c .before .before .before .before .before .before .before .before .before .before .before .before .before .before .before .before .before .before .before .before .before .before .before .before .before .before .before .before .before .before .before .args in frame-adds (frame-fits (lent (a .kept .now) (a .withdrawn .now) (a .schedule .now)) (held (a .old) (a .waiting .now) (a .posted .now) (a .sent .now) (a .dropped .now)) (c .before .before .before .before .before .before .before .before .before .before .before .before .before .before .before .before .before .before .before .before .before .frame-verdict .ensures) (c .before .before .before .before .before .before .before .before .before .before .before .before .before .before .before .before .before .before .before .enum-told .given .1)) (c .before .before .before .before .before .before .before .before .before .before .before .before .before .before .write-whole .ensures) (λ p. c .before .before .before .before .before .before .before .before .before .before .before .before .before .before .before .before .before .before .before .before .before .before .before .before .before .before .before .before .before .shared-slice-known .given p .fits)
 
--- src/frame.rt:53:1
 same-length-3 : tie.Need-same-length-3
 same-length-3 c = search needs
 
--- src/frame.rt:53:1
 same-length-4 : tie.Need-same-length-4
 same-length-4 c = search needs
 
--- src/frame.rt:53:1
 same-length-5 : tie.Need-same-length-5
 same-length-5 c = search needs
 
--- src/frame.rt:53:1
 same-length-6 : tie.Need-same-length-6
 same-length-6 c = search needs
 
--- src/frame.rt:53:1
 same-length-7 : tie.Need-same-length-7
 same-length-7 c = search needs
 
--- src/frame.rt:53:1
 returns-2 : tie.Need-returns-2
 returns-2 c = let a = c .before .before .before .before .before .before .before .before .before .before .before .before .before .before .before .before .before .before .before .before .before .before .before .before .before .before .before .before .before .before .before .before .before .before .args in frame-done (lent (a .kept .now) (a .withdrawn .now) (a .schedule .now)) (held (a .old) (a .waiting .now) (a .posted .now) (a .sent .now) (a .dropped .now)) (c .before .before .before .before .before .before .before .before .before .before .before .before .before .before .before .before .before .before .before .before .before .before .before .before .frame-verdict .ensures) (c .before .before .before .before .before .before .before .before .before .before .before .before .before .before .before .before .before .before .before .before .before .before .enum-told .given .1) (c .before .before .before .before .before .before .before .before .before .before .before .before .before .before .before .before .before .write-whole .ensures) (c .before .before .before .before .before .before .before .dequeue .ensures) (c .before .before .add .ensures)
 

@@ -1,35 +1,27 @@
+-- `fresh_verdict` meets its contract: the groups in their order. Assumes nothing.
 use mathlib.Core.Path.{sym, _∙_}
+use borrow.Author.Needs.{needs}
 use Rattle.star.proofs.RefusalLaws.{then-stops, then-goes, ranged}
 use Rattle.calls.specs.Checks.{freshVerdict}
-use borrow.Author.Needs.{needs}
 use Rattle.calls.proofs.fresh.fresh_verdict.Statement.{statement}
 use Rattle.calls.proofs.fresh.fresh_verdict.Tie as tie
-use Rattle.calls.proofs.fresh.fresh_verdict.Reads as reads
-use Rattle.calls.proofs.fresh.fresh_verdict.Lts as lts
-use Rattle.calls.proofs.checks.held_short.Reads as held-short-reads
-use Rattle.star.proofs.checks.ranges.Reads as ranges-reads
 
--- src/fresh.rt:25:9
 ranges-requires : tie.Need-ranges-requires
 ranges-requires c κs = search needs
 
 enum-told : tie.Need-enum-told
 enum-told c = search needs
 
--- src/fresh.rt:27:9
 enum-told-2 : tie.Need-enum-told-2
 enum-told-2 c = search needs
 
--- src/fresh.rt:27:9
 returns : tie.Need-returns
 unfolding freshVerdict
 returns c = then-stops _ (c .before .before .ranges .ensures) (c .enum-told2 .given .1)
 
--- src/fresh.rt:29:5
 held-short-requires : tie.Need-held-short-requires
 held-short-requires c κs = ranged (c .before .before .before .args .nodes) (c .before .before .before .args .slots) (c .before .before .before .args .rule) (c .before .before .before .args .limit) (sym (c .before .before .ranges .ensures) ∙ c .enum-told .given .1) .sizes .nodes
 
--- src/fresh.rt:13:1
 returns-2 : tie.Need-returns-2
 unfolding freshVerdict
 returns-2 c = then-goes (c .before .before .before .ranges .ensures) (c .before .enum-told .given .1) (c .held-short .ensures)

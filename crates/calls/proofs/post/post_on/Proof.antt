@@ -1,71 +1,52 @@
-use Rattle.calls.proofs.Outcomes.{post-refused, post-fits, post-done, post-adds, post-drops, post-arrives}
-use Rattle.calls.specs.Held.{held}
+-- `post_on` meets its contract: a refusal changes nothing; an acceptance has room for the work, and no sum wraps. Assumes nothing.
 use borrow.Author.Needs.{needs}
+use Rattle.calls.specs.Held.{held}
+use Rattle.calls.proofs.Outcomes.{post-refused, post-fits, post-done, post-adds, post-drops, post-arrives}
 use Rattle.calls.proofs.post.post_on.Statement.{statement}
 use Rattle.calls.proofs.post.post_on.Tie as tie
-use Rattle.calls.proofs.post.post_on.Reads as reads
-use Rattle.calls.proofs.post.post_on.Lts as lts
-use Rattle.books.proofs.amounts.add.Reads as add-reads
-use Rattle.books.proofs.queues.drop_excess.Reads as drop-excess-reads
-use Rattle.books.proofs.queues.enqueue.Reads as enqueue-reads
-use Rattle.calls.proofs.post.post_verdict.Reads as post-verdict-reads
 
--- src/post.rt:64:9
 post-verdict-requires : tie.Need-post-verdict-requires
 post-verdict-requires c κs = search needs
 
 enum-told : tie.Need-enum-told
 enum-told c = search needs
 
--- src/post.rt:66:9
 enum-told-2 : tie.Need-enum-told-2
 enum-told-2 c = search needs
 
--- src/post.rt:66:9
 same-length : tie.Need-same-length
 same-length c = search needs
 
--- src/post.rt:66:9
 same-length-2 : tie.Need-same-length-2
 same-length-2 c = search needs
 
--- src/post.rt:66:9
 same-length-3 : tie.Need-same-length-3
 same-length-3 c = search needs
 
--- src/post.rt:66:9
 returns : tie.Need-returns
 returns c = let a = c .before .before .before .before .before .before .before .before .before .before .before .args in post-refused (a .arrivals .now) (held (a .old) (a .waiting .now) (a .posted .now) (a .sent .now) (a .dropped .now)) (c .before .before .post-verdict .ensures) (c .enum-told2 .given .1)
 
--- src/post.rt:68:13
 cast-n : tie.Need-cast-n
 cast-n c = search needs
 
--- src/post.rt:69:5
 add-requires : tie.Need-add-requires
 add-requires c κs = let a = c .before .before .before .before .before .before .before .before .before .before .before .before .before .args in post-adds (post-fits (a .arrivals .now) (held (a .old) (a .waiting .now) (a .posted .now) (a .sent .now) (a .dropped .now)) (c .before .before .before .before .post-verdict .ensures) (c .before .before .enum-told .given .1))
 
--- src/post.rt:70:5
 drop-excess-requires : tie.Need-drop-excess-requires
 drop-excess-requires c κs = let a = c .before .before .before .before .before .before .before .before .before .before .before .before .before .before .before .before .before .before .args in post-drops (post-fits (a .arrivals .now) (held (a .old) (a .waiting .now) (a .posted .now) (a .sent .now) (a .dropped .now)) (c .before .before .before .before .before .before .before .before .before .post-verdict .ensures) (c .before .before .before .before .before .before .before .enum-told .given .1))
 
--- src/post.rt:71:5
 enqueue-requires : tie.Need-enqueue-requires
 enqueue-requires c κs = let a = c .before .before .before .before .before .before .before .before .before .before .before .before .before .before .before .before .before .before .before .before .before .before .args in post-arrives (post-fits (a .arrivals .now) (held (a .old) (a .waiting .now) (a .posted .now) (a .sent .now) (a .dropped .now)) (c .before .before .before .before .before .before .before .before .before .before .before .before .before .post-verdict .ensures) (c .before .before .before .before .before .before .before .before .before .before .before .enum-told .given .1))
 
--- src/post.rt:54:1
 same-length-4 : tie.Need-same-length-4
 same-length-4 c = search needs
 
--- src/post.rt:54:1
 same-length-5 : tie.Need-same-length-5
 same-length-5 c = search needs
 
--- src/post.rt:54:1
 same-length-6 : tie.Need-same-length-6
 same-length-6 c = search needs
 
--- src/post.rt:54:1
 returns-2 : tie.Need-returns-2
 returns-2 c = let a = c .before .before .before .before .before .before .before .before .before .before .before .before .before .before .before .before .before .before .before .before .before .before .before .before .before .args in post-done (a .arrivals .now) (held (a .old) (a .waiting .now) (a .posted .now) (a .sent .now) (a .dropped .now)) (c .before .before .before .before .before .before .before .before .before .before .before .before .before .before .before .before .post-verdict .ensures) (c .before .before .before .before .before .before .before .before .before .before .before .before .before .before .enum-told .given .1) (c .before .before .enqueue .ensures) (c .before .before .before .before .before .before .before .before .before .before .before .add .ensures) (c .before .before .before .before .before .before .drop-excess .ensures)
 
