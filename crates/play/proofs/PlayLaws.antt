@@ -17,7 +17,7 @@ use Rattle.star.specs.declared.refusals.Verdict.the-variants.{Accepted, Refused
 use Rattle.star.specs.Refusals.{Ranges}
 use Rattle.planner.specs.declared.answers.Answer.{Answer}
 use Rattle.planner.specs.Plans.{verdictOf}
-use Rattle.planner.specs.Lent.{Lent}
+use Rattle.planner.specs.Lent.{Lent, LentRoom}
 use Rattle.calls.specs.declared.record.Run.{Run}
 use Rattle.calls.specs.Held.{Held, held, freshRun, postRun, frameRun, recordAfter}
 use Rattle.calls.specs.Runs.{Freshened, Posted, Framed}
@@ -130,7 +130,7 @@ module _ {file : List ℕ} {e : ℕ} {h : Held} (c : CanPlay file e h) where
           let sizes = callable .ranges .sizes in
           let cells = mul-small (h .run .nodes) (h .run .nodes) (sizes .nodes) (sizes .nodes) in
           let bytes : h .run .slots * h .run .nodes ≤ 1024 * 64 = mul-le-mul (sizes .slots) (sizes .nodes) in
-          let room = record { kept = omega (arith, cells, q .long-kept); withdrawn = omega (arith, cells, q .long-withdrawn); schedule = omega (arith, bytes, q .long-schedule) } in
+          let room : LentRoom (h .run .nodes) (h .run .slots) (q .lent) = record { kept = omega (arith, cells, q .long-kept); withdrawn = omega (arith, cells, q .long-withdrawn); schedule = omega (arith, bytes, q .long-schedule) } in
           let ok = frame-theorems .accepts (q .lent) (q .plan) h _ (q .r) (q .framed) callable room few-frames in
           lengthened (framing (q .lent) (q .plan) (q .r)) ok
           (subst (λ r. Framed (q .lent) (q .plan) h (beside r) (q .r)) (accepted-record (frameRun (h .run)) (h .run) ok ∙ sym is) (q .framed))

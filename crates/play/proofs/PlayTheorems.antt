@@ -63,13 +63,13 @@ module _ {n l limit rule : ℕ} (fair : rule ≡ 0) where
     alike : HeldAlike (h .run .nodes) h g
     alike = subst (λ m. HeldAlike m h g) (sym here) s
 
-    same-post : {h' g' : Held} {a : List ℕ} {v u : Verdict} → Posted a h h' v → Posted a g g' u → v ≡ Accepted → HeldAlike n h' g'
-    same-post {h'} {g'} {a} {v} {u} x y ok =
+    same-post : {h' g' : Held} (a : List ℕ) {v u : Verdict} → Posted a h h' v → Posted a g g' u → v ≡ Accepted → HeldAlike n h' g'
+    same-post {h'} {g'} a {v} {u} x y ok =
         let cells = post-accepted a h (sym (x .answer) ∙ ok) .given .cells in
         subst (λ m. HeldAlike m h' g') here (post-theorems .needed a a h h' g g' v u x y (record { first-room = cells; second-room = cells; cells = refl }) alike .1)
 
-    same-frame : {h' g' : Held} {lent plan given made : Lent} {r t : Answer} → Framed lent plan h h' r → Framed given made g g' t → verdictOf r ≡ Accepted → verdictOf t ≡ Accepted → HeldAlike n h' g'
-    same-frame {h'} {g'} {lent} {plan} {given} {made} {r} {t} x y ok ko =
+    same-frame : {h' g' : Held} {lent plan given made : Lent} (r t : Answer) → Framed lent plan h h' r → Framed given made g g' t → verdictOf r ≡ Accepted → verdictOf t ≡ Accepted → HeldAlike n h' g'
+    same-frame {h'} {g'} {lent} {plan} {given} {made} r t x y ok ko =
         let one = frame-accepted h lent (sym (x .answer) ∙ ok) .tables in
         let other = subst (λ run. LentRoom (run .nodes) (run .slots) given) (sym (s .run)) (frame-accepted g given (sym (y .answer) ∙ ko) .tables) in
         subst (λ m. HeldAlike m h' g') here (frame-theorems .needed lent plan given made h h' g g' r t x y alike one other .fair-held ok (ap (λ r. r .rule) (books-hold past .run) ∙ fair))
@@ -83,9 +83,9 @@ module _ {n l limit rule : ℕ} (fair : rule ≡ 0) where
   same-held (posting a v ∷ es) (restarting n' l' limit' rule' x' ∷ fs) h k p q e x (more _ _ y ys) = absurd (never y)
   same-held (framing lent plan r ∷ es) (restarting n' l' limit' rule' x' ∷ fs) h k p q e x (more _ _ y ys) = absurd (never y)
   same-held (posting a v ∷ es) (posting b u ∷ fs) h k (continued _ _ h₀ _ p c) (continued _ _ k₀ _ q d) e (more _ _ x xs) (more _ _ y ys) =
-      same-post p (same-held es fs h₀ k₀ p q (snoc-front (told es) (told fs) (post a) (post b) e) xs ys) c (subst (λ t. Posted t k₀ k u) (sym (same-entry (snoc-last (told es) (told fs) (post a) (post b) e))) d) x
+      same-post p (same-held es fs h₀ k₀ p q (snoc-front (told es) (told fs) (post a) (post b) e) xs ys) a c (subst (λ t. Posted t k₀ k u) (sym (same-entry (snoc-last (told es) (told fs) (post a) (post b) e))) d) x
   same-held (framing lent plan r ∷ es) (framing given made t ∷ fs) h k (continued _ _ h₀ _ p c) (continued _ _ k₀ _ q d) e (more _ _ x xs) (more _ _ y ys) =
-      same-frame p (same-held es fs h₀ k₀ p q (snoc-front (told es) (told fs) frame frame e) xs ys) {lent = lent} {plan = plan} {given = given} {made = made} c d x y
+      same-frame p (same-held es fs h₀ k₀ p q (snoc-front (told es) (told fs) frame frame e) xs ys) r t c d x y
   same-held (posting a v ∷ es) (framing given made t ∷ fs) h k p q e x y = absurd (post-no-frame {x = a} (snoc-last (told es) (told fs) (post a) frame e))
   same-held (framing lent plan r ∷ es) (posting b u ∷ fs) h k p q e x y = absurd (post-no-frame {x = b} (sym (snoc-last (told es) (told fs) frame (post b) e)))
 

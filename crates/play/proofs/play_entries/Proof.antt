@@ -3,13 +3,14 @@ use Prim.Native.Nat.{_≤_, _-_}
 use native.Mathlib.Omega.{arith}
 use mathlib.Core.Path.{_≡_, refl, _∙_}
 use lib.ListN.{length}
+use Rattle.calls.specs.Held.{held}
 use Rattle.play.specs.Plays.{CanPlay}
 use Rattle.play.proofs.play_entries.Statement.{statement}
 use Rattle.play.proofs.play_entries.Tie as tie
 
 abbrev Inv-loop : tie.InvT-loop
 Inv-loop file entries waiting₀ posted₀ sent₀ dropped₀ run₀ e₀ waiting posted sent dropped run e =
-    (e ≤ entries) × CanPlay file e run waiting posted sent dropped × (length waiting ≡ length waiting₀) × (length posted ≡ length posted₀) × (length sent ≡ length sent₀) × (length dropped ≡ length dropped₀)
+    (e ≤ entries) × CanPlay file e (held run waiting posted sent dropped) × (length waiting ≡ length waiting₀) × (length posted ≡ length posted₀) × (length sent ≡ length sent₀) × (length dropped ≡ length dropped₀)
 
 abbrev μ-loop : tie.MeasureT-loop
 μ-loop file entries waiting₀ posted₀ sent₀ dropped₀ run₀ e₀ waiting posted sent dropped run e = entries - e

@@ -25,7 +25,7 @@ same-length-2 : tie.Need-same-length-2
 same-length-2 c = search needs
 
 returns : tie.Need-returns
-returns c = frame-played _ _ _ (c .before .before .before .before .before .before .before .frame-on .ensures) (length-replicate {A = ℕ} 4096 0) (length-replicate {A = ℕ} 4096 0) (length-replicate {A = ℕ} 65536 0)
+returns c = frame-played _ _ (c .before .before .before .before .before .before .before .frame-on .result) (c .before .before .before .before .before .before .before .frame-on .ensures) (length-replicate {A = ℕ} 4096 0) (length-replicate {A = ℕ} 4096 0) (length-replicate {A = ℕ} 65536 0)
 
 pub play-frame-spec : {M : Type 1} → statement M
 play-frame-spec =
