@@ -1,7 +1,7 @@
 -- What is printed for an input, by the cases of its length and of what is read. Assumes nothing.
 use Prim.Native.Nat.{ℕ, _≤_, _<_}
 use native.Mathlib.Omega.{arith}
-use mathlib.Core.Path.{_≡_, refl, sym, _∙_, ap}
+use mathlib.Core.Path.{_≡_, refl, sym, _∙_, ap, subst}
 use mathlib.Core.Bool.{true, false}
 use mathlib.Core.List.{List}
 use lib.Dec.{ltb}
@@ -11,14 +11,14 @@ use Rattle.star.specs.declared.refusals.Refusal.the-variants.{TableShort}
 use Rattle.star.specs.declared.refusals.Verdict.{Verdict}
 use Rattle.star.specs.declared.refusals.Verdict.the-variants.{Accepted, Refused}
 use Rattle.star.specs.Refusals.{refusalNumber, refusalPlace, noticeOf}
-use Rattle.star.proofs.RefusalLaws.{fires, passes, in-numbers, never}
+use Rattle.star.proofs.RefusalLaws.{fires, passes, in-numbers, never, promise-refused, promise-done}
 use Rattle.pieces.specs.Pieces.{Appended, Answered}
 use Rattle.pieces.specs.Text.{badInput, refusalText}
 use Rattle.pieces.proofs.PieceLaws.{answered-text, answered-as}
 use Rattle.calls.specs.declared.record.Run.{Run}
 use Rattle.calls.specs.Held.{held}
-use Rattle.files.specs.declared.output.Output.the-variants as output
 use Rattle.files.specs.declared.reading.Reading.{Reading}
+use Rattle.files.specs.declared.output.Output.the-variants as output
 use Rattle.files.specs.declared.reading.Reading.the-variants as reading
 use Rattle.files.specs.Format.{nodesOf, entriesOf}
 use Rattle.files.specs.Reading.{readVerdict, readAnswer}
@@ -79,18 +79,8 @@ print-notice lent = in-numbers _ _ _ refl
 module _ (file : List ℕ) {text text' : List ℕ} where
   pub printed : {k : ℕ} → ltb (length text) longestText ≡ false → Answered (PrintsFile file) text text' k → PrintResult file text text' (output.Bytes k)
   unfolding printVerdict
-  printed long a = let e : Accepted ≡ printVerdict (length text) = passes _ long refl in record {
-    answer = e;
-    notice = ap noticeOf e ∙ print-notice (length text);
-    accepted = λ _. a;
-    refused = λ x z. absurd (never (sym z));
-  }
+  printed long a = promise-done (passes _ long refl) (print-notice (length text)) text text' refl a
 
   pub not-printed : ltb (length text) longestText ≡ true → text' ≡ text → PrintResult file text text' (output.Refused TableShort)
   unfolding printVerdict
-  not-printed short same = let e : Refused TableShort ≡ printVerdict (length text) = fires _ short in record {
-    answer = e;
-    notice = ap noticeOf e ∙ print-notice (length text);
-    accepted = λ z. absurd (never z);
-    refused = λ x z. same;
-  }
+  not-printed short same = subst (λ x. PrintResult file text x (output.Refused TableShort)) (sym same) (promise-refused (fires _ short) (print-notice (length text)) text refl)

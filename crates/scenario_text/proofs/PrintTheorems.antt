@@ -11,8 +11,7 @@ use Rattle.star.specs.declared.refusals.Verdict.the-variants.{Accepted, Refused
 use Rattle.star.proofs.AlikeLaws.{alike-at}
 use Rattle.star.proofs.RefusalLaws.{passes}
 use Rattle.pieces.proofs.PieceLaws.{join-ext, answered-same}
-use Rattle.calls.specs.Held.{Held}
-use Rattle.run.specs.Theorems.{HeldAlike}
+use Rattle.calls.specs.Held.{Held, HeldAlike}
 use Rattle.files.specs.Format.{nodesOf, ruleOf, entriesOf}
 use Rattle.files.specs.Reading.{readVerdict}
 use Rattle.play.proofs.PlayTheorems.{play-theorems}

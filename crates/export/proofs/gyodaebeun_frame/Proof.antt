@@ -45,7 +45,7 @@ use denote.Exit.{yes as kept}
 use Rattle.star.specs.Refusals.{verdictNumber}
 use Rattle.planner.specs.Plans.{verdictOf}
 use Rattle.calls.specs.Runs.{FrameOn}
-use Rattle.export.specs.Reports.{reportOf}
+use Rattle.export.specs.Reports.{planReport}
 use Rattle.planner.specs.declared.answers.Answer.{Answer}
 use Rattle.planner.proofs.answers.Answer as rAnswer
 use Rattle.planner.proofs.answers.Answer.Laws as lAnswer
@@ -139,7 +139,7 @@ module _ {M : Type 1} (𝓤 : URA M) (H : Heap 𝓤) (A : Atoms 𝓤) (W : Given
   abbrev Says : Answer → Run → List ℕ → List ℕ → List ℕ → List ℕ → List ℕ → Type 0
   Says r m z0 z2 z4 z5 z6 = FrameOn h (now s0) (now s1) (now s2) (now s3) (now s4) (now s5) (now s6) m z0 z2 z4 z5 z6 r
 
-  exits : (r : Answer) (m : Run) (z0 : List ℕ) (z2 : List ℕ) (z4 : List ℕ) (z5 : List ℕ) (z6 : List ℕ) (p : List ℕ) (v : Verdict) (c : ℕ) (y : Val) → Says r m z0 z2 z4 z5 z6 → p ≡ reportOf r → v ≡ verdictOf r → c ≡ verdictNumber v → length z0 ≡ length (now s0) → length z2 ≡ length (now s2) → length z4 ≡ length (now s4) → length z5 ≡ length (now s5) → length z6 ≡ length (now s6) → ent 𝓤 (⋆ 𝓤 H A (‵ (fres γ (rRun.the-row .coded .code m)) ∷ ‵ (fobs γ′ ((Array u32 4) .coded .code p)) ∷ ‵ (fbor κ′ (Body (mem (Array u32 4)) b′ o′ γ′)) ∷ ‵ (flft κ′ q′) ∷ (‵ (flft κ q) ⊛ ‵ (flft κ0 q0) ⊛ ‵ (flft κ1 q1) ⊛ ‵ (flft κ2 q2) ⊛ ‵ (flft κ3 q3) ⊛ ‵ (flft κ4 q4) ⊛ ‵ (flft κ5 q5) ⊛ ‵ (flft κ6 q6) ⊛ ‵ ftrue) ∷ ‵ (finally u32 (s0 .name) z0) ∷ ‵ (finally u64 (s2 .name) z2) ∷ ‵ (finally u32 (s4 .name) z4) ∷ ‵ (finally u32 (s5 .name) z5) ∷ ‵ (finally u8 (s6 .name) z6) ∷ ‵ Own1 ∷ ‵ Own3 ∷ ‵ (u32 .own c (y ∷ [])) ∷ [])) (Post y)
+  exits : (r : Answer) (m : Run) (z0 : List ℕ) (z2 : List ℕ) (z4 : List ℕ) (z5 : List ℕ) (z6 : List ℕ) (p : List ℕ) (v : Verdict) (c : ℕ) (y : Val) → Says r m z0 z2 z4 z5 z6 → p ≡ planReport r → v ≡ verdictOf r → c ≡ verdictNumber v → length z0 ≡ length (now s0) → length z2 ≡ length (now s2) → length z4 ≡ length (now s4) → length z5 ≡ length (now s5) → length z6 ≡ length (now s6) → ent 𝓤 (⋆ 𝓤 H A (‵ (fres γ (rRun.the-row .coded .code m)) ∷ ‵ (fobs γ′ ((Array u32 4) .coded .code p)) ∷ ‵ (fbor κ′ (Body (mem (Array u32 4)) b′ o′ γ′)) ∷ ‵ (flft κ′ q′) ∷ (‵ (flft κ q) ⊛ ‵ (flft κ0 q0) ⊛ ‵ (flft κ1 q1) ⊛ ‵ (flft κ2 q2) ⊛ ‵ (flft κ3 q3) ⊛ ‵ (flft κ4 q4) ⊛ ‵ (flft κ5 q5) ⊛ ‵ (flft κ6 q6) ⊛ ‵ ftrue) ∷ ‵ (finally u32 (s0 .name) z0) ∷ ‵ (finally u64 (s2 .name) z2) ∷ ‵ (finally u32 (s4 .name) z4) ∷ ‵ (finally u32 (s5 .name) z5) ∷ ‵ (finally u8 (s6 .name) z6) ∷ ‵ Own1 ∷ ‵ Own3 ∷ ‵ (u32 .own c (y ∷ [])) ∷ [])) (Post y)
   exits r m z0 z2 z4 z5 z6 p v c y e ep ev ec len0 len2 len4 len5 len6 =
       qed W (‵ (fres γ (rRun.the-row .coded .code m)) ∷ ‵ (fobs γ′ ((Array u32 4) .coded .code p)) ∷ ‵ (fbor κ′ (Body (mem (Array u32 4)) b′ o′ γ′)) ∷ ‵ (flft κ′ q′) ∷ (‵ (flft κ q) ⊛ ‵ (flft κ0 q0) ⊛ ‵ (flft κ1 q1) ⊛ ‵ (flft κ2 q2) ⊛ ‵ (flft κ3 q3) ⊛ ‵ (flft κ4 q4) ⊛ ‵ (flft κ5 q5) ⊛ ‵ (flft κ6 q6) ⊛ ‵ ftrue) ∷ ‵ (finally u32 (s0 .name) z0) ∷ ‵ (finally u64 (s2 .name) z2) ∷ ‵ (finally u32 (s4 .name) z4) ∷ ‵ (finally u32 (s5 .name) z5) ∷ ‵ (finally u8 (s6 .name) z6) ∷ ‵ Own1 ∷ ‵ Own3 ∷ ‵ (u32 .own c (y ∷ [])) ∷ []) ∵
       suffices ! _ (ends-at 𝓤 H A f.ended stayed (f.clauses 𝓤 H A at-mem run) W (((κ, (κ0, (κ1, (κ2, (κ3, (κ4, (κ5, (κ6, (κ′, tt))))))))), (q, (q0, (q1, (q2, (q3, (q4, (q5, (q6, (q′, tt))))))))), tt, x, at), tt) y c (m, (z0, (tt, (z2, (tt, (z4, (z5, (z6, (p, tt))))))))) (tt, (len0, (tt, (len2, (tt, (len4, (len5, (len6, (tt, tt)))))))))) $ says ! (record { answer = r; kept = e; its-number = ec ∙ ap verdictNumber ev; its-report = ep }) $ move ! (4 ∷ []) $ split ! $ move ! (1 ∷ []) $ split ! $ move ! (1 ∷ []) $ split ! $ move ! (1 ∷ []) $ split ! $ move ! (1 ∷ []) $ split ! $ move ! (1 ∷ []) $ split ! $ move ! (1 ∷ []) $ split ! $ move ! (1 ∷ []) $ split ! $ move ! (12 ∷ 1 ∷ []) $ join ! $ move ! (1 ∷ 0 ∷ []) $ join ! $ move ! (1 ∷ 0 ∷ []) $ join ! $ move ! (1 ∷ 0 ∷ []) $ join ! $ move ! (1 ∷ 0 ∷ []) $ join ! $ move ! (1 ∷ 0 ∷ []) $ join ! $ move ! (1 ∷ 0 ∷ []) $ join ! $ move ! (1 ∷ 0 ∷ []) $ join ! $ move ! (1 ∷ 0 ∷ []) $ join ! $ frame ! $ move ! (1 ∷ 2 ∷ []) $ feqI ! (List Val) (vptr b′ o′ ∷ []) (vptr b′ o′ ∷ []) refl $ fjoin3 ! $ nothing ! $ move ! (1 ∷ 0 ∷ []) $ fjoin ! $ move ! (6 ∷ 0 ∷ []) $ fjoin ! $ move ! (5 ∷ 0 ∷ []) $ fjoin ! $ move ! (4 ∷ 0 ∷ []) $ fjoin ! $ move ! (5 ∷ 0 ∷ []) $ fjoin ! $ move ! (3 ∷ 0 ∷ []) $ fjoin ! $ move ! (3 ∷ 0 ∷ []) $ fjoin ! $ move ! (2 ∷ 0 ∷ []) $ fjoin ! $ move ! (1 ∷ 0 ∷ []) $ fjoin ! $ frame ! $ done !
@@ -160,9 +160,9 @@ module _ {M : Type 1} (𝓤 : URA M) (H : Heap 𝓤) (A : Atoms 𝓤) (W : Given
       qed W (‵ ftrue ∷ []) ∵
       nothing ! $ owned ! rAnswer.the-row (Is rAnswer.the-row) (EL.makes rAnswer.the-type lAnswer.the-plain 𝓤 H A) r (u ∷ []) is $ fjoin ! $ move ! (1 ∷ 0 ∷ []) $ join ! $ frame ! $ done !
 
-  said-stores : (r : Answer) (m : List ℕ) → ent 𝓤 (ensured 𝓤 H A stores.ended (stores.clauses 𝓤 H A at-mem run) tt (r, tt) tt m) (fact 𝓤 (m ≡ reportOf r))
+  said-stores : (r : Answer) (m : List ℕ) → ent 𝓤 (ensured 𝓤 H A stores.ended (stores.clauses 𝓤 H A at-mem run) tt (r, tt) tt m) (fact 𝓤 (m ≡ planReport r))
   said-stores r m =
-      exE 𝓤 _ (λ ws. snd∗ 𝓤 (sem 𝓤 H A (lasts stores.ended tt (r, tt) ws)) (fact 𝓤 (m ≡ reportOf r)))
+      exE 𝓤 _ (λ ws. snd∗ 𝓤 (sem 𝓤 H A (lasts stores.ended tt (r, tt) ws)) (fact 𝓤 (m ≡ planReport r)))
 
   abbrev to-judges : Answer → Val → Judges 𝓤 H A at-mem run .Ghost
   to-judges r u = ((tt, tt, tt, (r, tt), (u ∷ [], tt)), tt)
@@ -212,7 +212,7 @@ module _ {M : Type 1} (𝓤 : URA M) (H : Heap 𝓤) (A : Atoms 𝓤) (W : Given
         move ! (7 ∷ []) $ split ! $ move ! (1 ∷ []) $ peeks ! rAnswer.the-row (Is rAnswer.the-row) (shows 𝓤 H A rAnswer.the-row) r (u ∷ []) (λ is. drop ! $
         land ! (from ! (stop !)) (init ! 38 refl (EL.lawful rAnswer.the-type lAnswer.the-laws 𝓤 H A W tt .typed r _ is .0)) $
         nothing ! $ use1 W (raw (Stores 𝓤 H A at-mem run .pre (to-stores r u))) (goes-stores r u is) $ calls-at ! fm (Stores 𝓤 H A at-mem run) known-stores (to-stores r u) (and-then ! (load ! (from ! (stop !)) (look ! 39 refl)) (no-more !)) (λ w.
-        use1 W (later (some (λ (m : List ℕ). (‵ ftrue ⊛ ‵ ((Array u32 4) .own m (w ∷ []))) ⊛ raw (ensured 𝓤 H A stores.ended (stores.clauses 𝓤 H A at-mem run) tt (r, tt) tt m)))) (id⊢ 𝓤 _) $ await ! tt $ pick ! (λ p. split ! $ move ! (1 ∷ []) $ use1 W (raw (fact 𝓤 (p ≡ reportOf r))) (said-stores r p) $ heard ! (p ≡ reportOf r) (λ ep. split ! $ drop ! $ peeks ! (Array u32 4) (Is (Array u32 4)) (shows 𝓤 H A (Array u32 4)) p (w ∷ []) (λ is-p.
+        use1 W (later (some (λ (m : List ℕ). (‵ ftrue ⊛ ‵ ((Array u32 4) .own m (w ∷ []))) ⊛ raw (ensured 𝓤 H A stores.ended (stores.clauses 𝓤 H A at-mem run) tt (r, tt) tt m)))) (id⊢ 𝓤 _) $ await ! tt $ pick ! (λ p. split ! $ move ! (1 ∷ []) $ use1 W (raw (fact 𝓤 (p ≡ planReport r))) (said-stores r p) $ heard ! (p ≡ planReport r) (λ ep. split ! $ drop ! $ peeks ! (Array u32 4) (Is (Array u32 4)) (shows 𝓤 H A (Array u32 4)) p (w ∷ []) (λ is-p.
         land ! (from ! (stop !)) (init ! 15 refl ((array-lawful 𝓤 H A W u32 (uint-lawful 𝓤 H A W w32) 4) .typed p _ is-p .0)) $
         move ! (12 ∷ []) $ fsplit3 ! $ drop ! $ move ! (0 ∷ 1 ∷ 13 ∷ []) $ opens ! tt (Array u32 4) {h = h′} b′ o′ (λ vs. spelt ! (Array u32 4) (Is (Array u32 4)) (shows 𝓤 H A (Array u32 4)) (array-vals (uint-vals w32)) (array-tells u32 (uint-vals w32) (uint-tells w32) 4) fullShare h′ vs b′ o′ $ move ! (1 ∷ []) $ drop ! $
         assigns ! (of-opd ! (load ! (from ! (stop !)) (look ! 17 refl))) (from ! (hop ! (look ! 43 refl) (stop !))) (store-raw ! 0 refl ((array-lawful 𝓤 H A W u32 (uint-lawful 𝓤 H A W w32) 4) .typed p _ is-p .0)) $

@@ -36,7 +36,7 @@ slice-aggregate-put-lines-4 : tie.Need-slice-aggregate-put-lines-4
 slice-aggregate-put-lines-4 c = search needs
 
 put-lines-requires : tie.Need-put-lines-requires
-put-lines-requires c κs = let r = accepted-sound (c .before .before .before .before .before .before .before .before .before .before .before .before .before .before .before .before .args .file .now) (c .before .before .before .before .before .before .before .before .before .before .before .before .before .before .before .before .pre .1) .ranges in ((omega (arith, r .some-nodes, c .before .before .before .before .before .before .before .before .before .before .before .before .before .before .before .before .pre .2), omega (arith, r .nodes, c .before .before .before .before .before .before .before .before .before .before .before .before .before .before .before .before .pre .2), c .before .before .before .before .before .before .before .before .before .before .before .before .before .before .before .before .pre .0), record { queues = omega (arith, c .before .before .before .before .before .before .before .before .before .play .kept .1 .0, length-replicate {A = ℕ} 4096 0); postings = omega (arith, c .before .before .before .before .before .before .before .before .before .play .kept .1 .1 .0, length-replicate {A = ℕ} 4096 0); sendings = omega (arith, c .before .before .before .before .before .before .before .before .before .play .kept .1 .1 .1 .0, length-replicate {A = ℕ} 4096 0); drops = omega (arith, c .before .before .before .before .before .before .before .before .before .play .kept .1 .1 .1 .1 .0, length-replicate {A = ℕ} 4096 0) })
+put-lines-requires c κs = let r = accepted-sound (c .before .before .before .before .before .before .before .before .before .before .before .before .before .before .before .before .args .file .now) (c .before .before .before .before .before .before .before .before .before .before .before .before .before .before .before .before .pre .1) .ranges in ((omega (arith, r .sizes .some-nodes, c .before .before .before .before .before .before .before .before .before .before .before .before .before .before .before .before .pre .2), omega (arith, r .sizes .nodes, c .before .before .before .before .before .before .before .before .before .before .before .before .before .before .before .before .pre .2), c .before .before .before .before .before .before .before .before .before .before .before .before .before .before .before .before .pre .0), record { queues = omega (arith, c .before .before .before .before .before .before .before .before .before .play .kept .1 .0, length-replicate {A = ℕ} 4096 0); postings = omega (arith, c .before .before .before .before .before .before .before .before .before .play .kept .1 .1 .0, length-replicate {A = ℕ} 4096 0); sendings = omega (arith, c .before .before .before .before .before .before .before .before .before .play .kept .1 .1 .1 .0, length-replicate {A = ℕ} 4096 0); drops = omega (arith, c .before .before .before .before .before .before .before .before .before .play .kept .1 .1 .1 .1 .0, length-replicate {A = ℕ} 4096 0) })
 
 same-length : tie.Need-same-length
 same-length c = search needs
