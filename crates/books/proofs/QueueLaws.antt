@@ -9,7 +9,7 @@ use Rattle.sums.proofs.Tables.{cell-lt, length-tab, tab-at, tab-ext, written-at
 use Rattle.sums.proofs.Fills.{tab-same}
 use Rattle.star.specs.Tables.{Alike}
 use Rattle.star.proofs.AlikeLaws.{alike-at}
-use Rattle.books.specs.Queues.{zeroed, renewed, more, overflowed, queued, served}
+use Rattle.books.specs.Queues.{zeroed, renewed, increased, overflowed, queued, served}
 
 module _ (n : ℕ) (f : ℕ → ℕ) (old : List ℕ) where
   pub renewed-at : (p : ℕ) → p < n * n → getD (renewed n f old) p 0 ≡ f p
@@ -45,9 +45,9 @@ module _ (n : ℕ) where
   pub zeroed-length : (table : List ℕ) → n * n ≤ length table → length (zeroed n table) ≡ length table
   zeroed-length table h = ap length (zeroed-renewed n table) ∙ renewed-length n (λ p. 0) table h
 
-  pub more-length : (added : List ℕ) (amounts : List ℕ) → n * n ≤ length amounts → length (more n added amounts) ≡ length amounts
-  unfolding more
-  more-length added amounts h = renewed-length n _ amounts h
+  pub increased-length : (added : List ℕ) (amounts : List ℕ) → n * n ≤ length amounts → length (increased n added amounts) ≡ length amounts
+  unfolding increased
+  increased-length added amounts h = renewed-length n _ amounts h
 
   pub overflowed-length : (limit : ℕ) (arrivals waiting : List ℕ) (dropped : List ℕ) → n * n ≤ length dropped → length (overflowed n limit arrivals waiting dropped) ≡ length dropped
   unfolding overflowed
@@ -67,9 +67,9 @@ module _ (n : ℕ) where
   zeroed-alike x y = rw (zeroed-renewed n x, zeroed-renewed n y) (renewed-alike n (λ p. 0) (λ p. 0) x y (λ p h. refl))
 
   module _ {a b : List ℕ} (given : Alike (n * n) a b) {x y : List ℕ} (old : Alike (n * n) x y) where
-    pub more-alike : Alike (n * n) (more n a x) (more n b y)
-    unfolding more
-    more-alike = renewed-alike n _ _ x y (λ p h. rw (alike-at old p h, alike-at given p h) refl)
+    pub increased-alike : Alike (n * n) (increased n a x) (increased n b y)
+    unfolding increased
+    increased-alike = renewed-alike n _ _ x y (λ p h. rw (alike-at old p h, alike-at given p h) refl)
 
     pub queued-alike : (limit : ℕ) → Alike (n * n) (queued n limit a x) (queued n limit b y)
     unfolding queued
@@ -88,9 +88,9 @@ module _ (n : ℕ) (i j : ℕ) (hi : i < n) (hj : j < n) where
   pub zeroed-cell : (table : List ℕ) → cell n (zeroed n table) i j ≡ 0
   zeroed-cell table = ap (λ t. cell n t i j) (zeroed-renewed n table) ∙ renewed-cell n (λ p. 0) table i j hi hj
 
-  pub more-cell : (added amounts : List ℕ) → cell n (more n added amounts) i j ≡ cell n amounts i j + cell n added i j
-  unfolding more cell
-  more-cell added amounts = renewed-cell n (λ p. getD amounts p 0 + getD added p 0) amounts i j hi hj
+  pub increased-cell : (added amounts : List ℕ) → cell n (increased n added amounts) i j ≡ cell n amounts i j + cell n added i j
+  unfolding increased cell
+  increased-cell added amounts = renewed-cell n (λ p. getD amounts p 0 + getD added p 0) amounts i j hi hj
 
   pub overflowed-cell : (limit : ℕ) (arrivals waiting dropped : List ℕ) →
       cell n (overflowed n limit arrivals waiting dropped) i j ≡ cell n dropped i j + (cell n waiting i j + cell n arrivals i j - limit)

@@ -13,8 +13,8 @@ abbrev pub renewed : (n : ℕ) (new : ℕ → ℕ) (table : List ℕ) → List �
 renewed n new table = written (n * n) (tab (n * n) new) table
 
 -- amounts with what is added to them: posted with the arrivals, sent with what a frame keeps
-unfoldable pub more : (n : ℕ) (added amounts : List ℕ) → List ℕ
-more n added amounts = renewed n (λ p. getD amounts p 0 + getD added p 0) amounts
+unfoldable pub increased : (n : ℕ) (added amounts : List ℕ) → List ℕ
+increased n added amounts = renewed n (λ p. getD amounts p 0 + getD added p 0) amounts
 
 -- dropped, with what of the arrivals would lift waiting above B
 unfoldable pub overflowed : (n limit : ℕ) (arrivals waiting dropped : List ℕ) → List ℕ

@@ -3,7 +3,7 @@ ghost use mathlib.Core.Path.{_≡_};
 ghost use Prim.Native.Nat.{_<_};
 ghost use Rattle.sums.specs.Tables.{cell};
 ghost use Rattle.star.specs.Rooms.{Square};
-ghost use Rattle.books.specs.Queues.{zeroed, more};
+ghost use Rattle.books.specs.Queues.{zeroed, increased};
 ghost use Rattle.books.specs.Rooms.{Adds};
 
 // The amount of the pair of source i and destination j.
@@ -31,7 +31,7 @@ pub fn clear(n: usize, amounts: &mut [u64])
 // Adds a number to the amount of each pair.
 pub fn add(n: usize, amounts: &mut [u64], added: &[u32])
     requires { ⌜ Adds n (now amounts) (now added) ⌝ }
-    ensures { λ _. ⌜ now (amounts .exit) ≡ more n (now (added .entry)) (now (amounts .entry)) ⌝ }
+    ensures { λ _. ⌜ now (amounts .exit) ≡ increased n (now (added .entry)) (now (amounts .entry)) ⌝ }
 {
     let cells = n * n;
     let mut p = 0;

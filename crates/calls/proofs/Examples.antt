@@ -8,10 +8,10 @@ use Rattle.sums.specs.Tables.{tab, written}
 use Rattle.star.specs.declared.refusals.Refusal.the-variants.{Rule}
 use Rattle.star.specs.declared.refusals.Verdict.the-variants.{Accepted, Refused}
 use Rattle.star.specs.Refusals.{Notice, notice, noticeOf, firstAbove}
-use Rattle.star.specs.Checks.{sizesVerdict, ruleVerdict, settingsVerdict, rangesVerdict, demandShortVerdict, demandAboveVerdict, refuse, then}
+use Rattle.star.specs.Checks.{sizesVerdict, ruleVerdict, ruleAndLimitVerdict, rangesVerdict, demandShortVerdict, demandAboveVerdict, refuse, then}
 use Rattle.planner.specs.Checks.{lentShortVerdict}
 use Rattle.books.specs.Books.{booksAgree, firstDisagreeing}
-use Rattle.books.specs.Queues.{zeroed, more, overflowed, queued, served}
+use Rattle.books.specs.Queues.{zeroed, increased, overflowed, queued, served}
 use Rattle.calls.specs.declared.record.Run.{Run}
 use Rattle.calls.specs.Held.{held, afterFresh, afterPost, afterFrame, recordAfter}
 use Rattle.calls.specs.Checks.{heldShortVerdict, agreementVerdict, countVerdict, freshVerdict, postVerdict, frameVerdict}
@@ -24,7 +24,7 @@ run nodes slots limit rule posts frames = record { nodes = nodes; slots = slots;
 abbrev fresh : (n l limit rule waiting posted sent dropped : ℕ) → Notice
 fresh n l limit rule waiting posted sent dropped = noticeOf (freshVerdict n l limit rule waiting posted sent dropped)
 
--- Fresh 1, 2, 3, 7, 5.
+-- the checks of `fresh`, each with the next one
 pub record FreshGives : Type 0 where
   pub nodes : fresh 0 0 6 1 1 1 1 1 ≡ notice 1 0
   pub slots : fresh 1 0 6 2 1 1 1 1 ≡ notice 2 0
@@ -39,7 +39,7 @@ pub record FreshGives : Type 0 where
   pub highest : fresh 64 1024 65535 1 4096 4096 4096 4096 ≡ notice 0 0
 
 fresh-gives : FreshGives
-unfolding freshVerdict rangesVerdict settingsVerdict ruleVerdict sizesVerdict heldShortVerdict then refuse
+unfolding freshVerdict rangesVerdict ruleAndLimitVerdict ruleVerdict sizesVerdict heldShortVerdict then refuse
 fresh-gives = record {
   nodes = refl;
   slots = refl;
@@ -68,7 +68,7 @@ record-then = refl
 abbrev post : (old : Run) (arrivals waiting posted sent dropped : List ℕ) → Notice
 post old arrivals waiting posted sent dropped = noticeOf (postVerdict arrivals (held old waiting posted sent dropped))
 
--- Post 1, 2, 3, 7, 4, 5, 8, 9, 6.
+-- the checks of `post`, each with the next one
 pub record PostGives : Type 0 where
   pub nodes : post (run 65 0 6 1 0 0) (1 ∷ []) (0 ∷ []) (0 ∷ []) (0 ∷ []) (0 ∷ []) ≡ notice 1 0
   pub slots : post (run 1 1025 6 2 0 0) (1 ∷ []) (0 ∷ []) (0 ∷ []) (0 ∷ []) (0 ∷ []) ≡ notice 2 0
@@ -88,7 +88,7 @@ pub record PostGives : Type 0 where
   pub over-posted : post (run 1 4 6 1 2 0) (1 ∷ []) (0 ∷ []) (131071 ∷ []) (131071 ∷ []) (0 ∷ []) ≡ notice 8 0
 
 post-gives : PostGives
-unfolding postVerdict rangesVerdict settingsVerdict ruleVerdict sizesVerdict demandShortVerdict heldShortVerdict agreementVerdict countVerdict demandAboveVerdict then refuse firstDisagreeing booksAgree firstAbove firstBelow firstFrom
+unfolding postVerdict rangesVerdict ruleAndLimitVerdict ruleVerdict sizesVerdict demandShortVerdict heldShortVerdict agreementVerdict countVerdict demandAboveVerdict then refuse firstDisagreeing booksAgree firstAbove firstBelow firstFrom
 post-gives = record {
   nodes = refl;
   slots = refl;
@@ -109,14 +109,14 @@ post-gives = record {
 post-held :
     afterPost (10 ∷ 1 ∷ 0 ∷ 7 ∷ []) (held (run 2 4 6 1 7 9) (5 ∷ 5 ∷ 6 ∷ 0 ∷ 3 ∷ []) (1 ∷ 1 ∷ 1 ∷ 1 ∷ 3 ∷ []) (2 ∷ 2 ∷ 2 ∷ 2 ∷ []) (1 ∷ 1 ∷ 1 ∷ 1 ∷ 3 ∷ [])) ≡
     held (run 2 4 6 1 8 9) (6 ∷ 6 ∷ 6 ∷ 6 ∷ 3 ∷ []) (11 ∷ 2 ∷ 1 ∷ 8 ∷ 3 ∷ []) (2 ∷ 2 ∷ 2 ∷ 2 ∷ []) (10 ∷ 1 ∷ 1 ∷ 2 ∷ 3 ∷ [])
-unfolding queued more overflowed written tab
+unfolding queued increased overflowed written tab
 post-held = refl
 
 -- ---- frame, given how many cells kept, withdrawn and schedule have
 abbrev frame : (old : Run) (waiting posted sent dropped : List ℕ) (kept withdrawn schedule : ℕ) → Notice
 frame old waiting posted sent dropped kept withdrawn schedule = noticeOf (frameVerdict (held old waiting posted sent dropped) kept withdrawn schedule)
 
--- Frame 1, 2, 3, 7, 5, 8, 9.
+-- the checks of `frame`, each with the next one
 pub record FrameGives : Type 0 where
   pub nodes : frame (run 0 0 6 1 0 0) (0 ∷ []) (0 ∷ []) (0 ∷ []) (0 ∷ []) 1 1 4 ≡ notice 1 0
   pub slots : frame (run 1 0 6 2 0 0) (0 ∷ []) (0 ∷ []) (0 ∷ []) (0 ∷ []) 1 1 4 ≡ notice 2 0
@@ -136,7 +136,7 @@ pub record FrameGives : Type 0 where
   pub empty : frame (run 1 4 6 1 0 999999) (0 ∷ []) (0 ∷ []) (0 ∷ []) (0 ∷ []) 1 1 4 ≡ notice 0 0
 
 frame-gives : FrameGives
-unfolding frameVerdict postVerdict rangesVerdict settingsVerdict ruleVerdict sizesVerdict demandShortVerdict heldShortVerdict lentShortVerdict agreementVerdict countVerdict demandAboveVerdict then refuse firstDisagreeing booksAgree firstAbove firstBelow firstFrom
+unfolding frameVerdict postVerdict rangesVerdict ruleAndLimitVerdict ruleVerdict sizesVerdict demandShortVerdict heldShortVerdict lentShortVerdict agreementVerdict countVerdict demandAboveVerdict then refuse firstDisagreeing booksAgree firstAbove firstBelow firstFrom
 frame-gives = record {
   nodes = refl;
   slots = refl;
@@ -157,5 +157,5 @@ frame-gives = record {
 frame-held :
     afterFrame (4 ∷ 0 ∷ 2 ∷ 0 ∷ 9 ∷ []) (held (run 2 4 6 0 7 9) (6 ∷ 1 ∷ 2 ∷ 0 ∷ 9 ∷ []) (8 ∷ 1 ∷ 2 ∷ 0 ∷ []) (1 ∷ 0 ∷ 0 ∷ 0 ∷ 5 ∷ []) (1 ∷ 0 ∷ 0 ∷ 0 ∷ [])) ≡
     held (run 2 4 6 0 7 10) (2 ∷ 1 ∷ 0 ∷ 0 ∷ 9 ∷ []) (8 ∷ 1 ∷ 2 ∷ 0 ∷ []) (5 ∷ 0 ∷ 2 ∷ 0 ∷ 5 ∷ []) (1 ∷ 0 ∷ 0 ∷ 0 ∷ [])
-unfolding served more written tab
+unfolding served increased written tab
 frame-held = refl

@@ -18,7 +18,7 @@ use Rattle.planner.specs.Plans.{verdictOf, PlanDone}
 use Rattle.planner.specs.Lent.{Lent}
 use Rattle.planner.specs.Work.{PlanRoom}
 use Rattle.planner.proofs.PlanLaws.{whole-room, plan-below-at}
-use Rattle.books.specs.Queues.{zeroed, more, overflowed, queued, served}
+use Rattle.books.specs.Queues.{zeroed, increased, overflowed, queued, served}
 use Rattle.books.specs.Rooms.{Tables, Adds, Arrives, Drops, Takes}
 use Rattle.calls.specs.declared.record.Run.{Run}
 use Rattle.calls.specs.Held.{Held, held, freshRun, postRun, frameRun, recordAfter}
@@ -42,11 +42,10 @@ refused-record new old e = rw e refl
 
 -- ---- fresh
 module _ (n l limit rule : ℕ) (h : Held) {v : Verdict} (is : v ≡ freshVerdict n l limit rule (length (h .waiting)) (length (h .posted)) (length (h .sent)) (length (h .dropped))) where
-  fresh-told : {h' : Held} → h ≡ h' → {x : Refusal} → v ≡ Refused x → Freshened n l limit rule h h' v
-  fresh-told same e = subst (λ h'. Freshened n l limit rule h h' v) same (promise-refused is (fresh-notice n l limit rule (length (h .waiting)) (length (h .posted)) (length (h .sent)) (length (h .dropped))) h e)
-
   pub fresh-refused : {x : Refusal} → v ≡ Refused x → Freshened n l limit rule h (held (recordAfter v (freshRun n l limit rule) (h .run)) (h .waiting) (h .posted) (h .sent) (h .dropped)) v
-  fresh-refused e = fresh-told (ap (λ r. held r (h .waiting) (h .posted) (h .sent) (h .dropped)) (refused-record (freshRun n l limit rule) (h .run) e)) e
+  fresh-refused e =
+      subst (λ r. Freshened n l limit rule h (held r (h .waiting) (h .posted) (h .sent) (h .dropped)) v) (refused-record (freshRun n l limit rule) (h .run) e)
+      (promise-refused is (fresh-notice n l limit rule (length (h .waiting)) (length (h .posted)) (length (h .sent)) (length (h .dropped))) h e)
 
   pub fresh-room : v ≡ Accepted → Tables n (h .waiting) (h .posted) (h .sent) (h .dropped)
   fresh-room e = let a = fresh-accepted n l limit rule h (sym is ∙ e) in held-tables (a .0 .sizes .nodes) (a .1)
@@ -67,7 +66,7 @@ module _ (arrivals : List ℕ) (h : Held) {v : Verdict} (is : v ≡ postVerdict 
   pub post-fits : v ≡ Accepted → PostFits arrivals h
   post-fits e = post-accepted arrivals h (sym is ∙ e)
 
-  pub post-done : v ≡ Accepted → {waiting posted dropped : List ℕ} → waiting ≡ queued (h .run .nodes) (h .run .limit) arrivals (h .waiting) → posted ≡ more (h .run .nodes) arrivals (h .posted) →
+  pub post-done : v ≡ Accepted → {waiting posted dropped : List ℕ} → waiting ≡ queued (h .run .nodes) (h .run .limit) arrivals (h .waiting) → posted ≡ increased (h .run .nodes) arrivals (h .posted) →
       dropped ≡ overflowed (h .run .nodes) (h .run .limit) arrivals (h .waiting) (h .dropped) →
       Posted arrivals h (held (recordAfter v (postRun (h .run)) (h .run)) waiting posted (h .sent) dropped) v
   post-done e w p d = promise-done is (post-notice arrivals h) h _ e (held-same (accepted-record (postRun (h .run)) (h .run) e) w p refl d)
@@ -112,7 +111,7 @@ module _ (k : Lent) (h : Held) {v : Verdict} (is : v ≡ frameVerdict h (length 
 
   pub frame-done : v ≡ Accepted → {k' : Lent} {f : Report} {waiting sent : List ℕ} →
       PlanDone (h .run .nodes) (h .run .slots) (h .run .rule) (wholeFrame (h .run .nodes) (h .run .slots)) (h .waiting) k k' f →
-      waiting ≡ served (h .run .nodes) (k' .kept) (h .waiting) → sent ≡ more (h .run .nodes) (k' .kept) (h .sent) →
+      waiting ≡ served (h .run .nodes) (k' .kept) (h .waiting) → sent ≡ increased (h .run .nodes) (k' .kept) (h .sent) →
       Framed k k' h (held (recordAfter Accepted (frameRun (h .run)) (h .run)) waiting (h .posted) sent (h .dropped)) (answer.Planned f)
   frame-done e {k'} plan w s =
       promise-done (sym e ∙ is) (frame-notice h (length (k .kept)) (length (k .withdrawn)) (length (k .schedule))) (h, k) (_, k') refl

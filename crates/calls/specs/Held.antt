@@ -9,7 +9,7 @@ use Rattle.star.specs.declared.refusals.Verdict.the-variants.{Accepted, Refused
 use Rattle.star.specs.Refusals.{short}
 use Rattle.star.specs.Tables.{Alike}
 use Rattle.books.specs.Books.{firstDisagreeing}
-use Rattle.books.specs.Queues.{zeroed, more, overflowed, queued, served}
+use Rattle.books.specs.Queues.{zeroed, increased, overflowed, queued, served}
 use Rattle.calls.specs.declared.record.Run.{Run}
 
 -- the record of a run and its four tables
@@ -60,7 +60,7 @@ postRun old = record { nodes = old .nodes; slots = old .slots; limit = old .limi
 
 abbrev pub afterPost : (arrivals : List ℕ) (h : Held) → Held
 afterPost arrivals h =
-    held (postRun (h .run)) (queued (h .run .nodes) (h .run .limit) arrivals (h .waiting)) (more (h .run .nodes) arrivals (h .posted)) (h .sent)
+    held (postRun (h .run)) (queued (h .run .nodes) (h .run .limit) arrivals (h .waiting)) (increased (h .run .nodes) arrivals (h .posted)) (h .sent)
     (overflowed (h .run .nodes) (h .run .limit) arrivals (h .waiting) (h .dropped))
 
 -- A frame takes what is kept from waiting, and adds it to sent; frames rises by 1.
@@ -68,7 +68,7 @@ abbrev pub frameRun : Run → Run
 frameRun old = record { nodes = old .nodes; slots = old .slots; limit = old .limit; rule = old .rule; posts = old .posts; frames = old .frames + 1 }
 
 abbrev pub afterFrame : (kept : List ℕ) (h : Held) → Held
-afterFrame kept h = held (frameRun (h .run)) (served (h .run .nodes) kept (h .waiting)) (h .posted) (more (h .run .nodes) kept (h .sent)) (h .dropped)
+afterFrame kept h = held (frameRun (h .run)) (served (h .run .nodes) kept (h .waiting)) (h .posted) (increased (h .run .nodes) kept (h .sent)) (h .dropped)
 
 -- the record after a call: another one where the call was accepted
 unfoldable pub recordAfter : (v : Verdict) (new old : Run) → Run

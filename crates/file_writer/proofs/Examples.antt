@@ -10,7 +10,7 @@ use Rattle.sums.specs.Tables.{tab, written}
 use Rattle.star.specs.declared.refusals.Refusal.the-variants.{TableShort}
 use Rattle.star.specs.declared.refusals.Verdict.the-variants.{Accepted}
 use Rattle.star.specs.Refusals.{Notice, notice, noticeOf}
-use Rattle.star.specs.Checks.{sizesVerdict, ruleVerdict, settingsVerdict, rangesVerdict, refuse, then}
+use Rattle.star.specs.Checks.{sizesVerdict, ruleVerdict, ruleAndLimitVerdict, rangesVerdict, refuse, then}
 use Rattle.pieces.specs.Pieces.{joinTo}
 use Rattle.files.specs.declared.output.Output.{Output}
 use Rattle.files.specs.Format.{post, frame, Scenario}
@@ -63,7 +63,7 @@ unfolding fileBytes sizesBytes fourBytes twoBytes postsTo joinTo sumTo written
 no-entries-after out' r x ok = x .accepted ok .bytes
 
 refused-after : (out' : List ℕ) (r : Output) → WriteResult 1 4 6 1 [] [] (replicate 19 9) out' r → out' ≡ replicate 19 9
-unfolding writeVerdict rangesVerdict settingsVerdict ruleVerdict sizesVerdict cellsVerdict then refuse firstUnknown firstBelow firstFrom postsTo sumTo
+unfolding writeVerdict rangesVerdict ruleAndLimitVerdict ruleVerdict sizesVerdict cellsVerdict then refuse firstUnknown firstBelow firstFrom postsTo sumTo
 refused-after out' r x = x .refused TableShort (x .answer)
 
 -- ---- two nodes, a post, a frame, a post: the first matrix stands after the table, at 44, the second 8 bytes on; 0 for the frame
@@ -80,7 +80,7 @@ second-post = refl
 abbrev writes : (n l limit rule : ℕ) (kinds cells : List ℕ) (bytes : ℕ) → Notice
 writes n l limit rule kinds cells bytes = noticeOf (writeVerdict n l limit rule kinds cells bytes)
 
--- 10 at place 0; 1, 2, 3, 7; 10 at an entry; 4, 5, 6.
+-- the checks of writing, each with the next one
 pub record WriteGives : Type 0 where
   pub many-entries : writes 0 4 6 1 (replicate 4097 0) [] 0 ≡ notice 10 0
   pub most-entries : writes 0 4 6 1 (replicate 4096 2) [] 0 ≡ notice 1 0
@@ -106,7 +106,7 @@ pub record WriteGives : Type 0 where
   pub cut-table : writes 1 1 1 0 [] [] 19 ≡ notice 5 0
 
 write-gives : WriteGives
-unfolding writeVerdict rangesVerdict settingsVerdict ruleVerdict sizesVerdict cellsVerdict then refuse firstUnknown firstBelow firstFrom postsTo sumTo
+unfolding writeVerdict rangesVerdict ruleAndLimitVerdict ruleVerdict sizesVerdict cellsVerdict then refuse firstUnknown firstBelow firstFrom postsTo sumTo
 write-gives = record {
   many-entries = refl;
   most-entries = refl;

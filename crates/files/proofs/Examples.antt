@@ -9,7 +9,7 @@ use Rattle.sums.specs.Searches.{firstBelow, firstFrom}
 use Rattle.sums.specs.Tables.{tab}
 use Rattle.star.specs.declared.refusals.Refusal.the-variants.{BadFile, TableShort}
 use Rattle.star.specs.Refusals.{verdictNumber, verdictPlace, notice, accepted, check}
-use Rattle.star.specs.Checks.{sizesVerdict, ruleVerdict, settingsVerdict, rangesVerdict, refuse, then}
+use Rattle.star.specs.Checks.{sizesVerdict, ruleVerdict, ruleAndLimitVerdict, rangesVerdict, refuse, then}
 use Rattle.files.specs.declared.reading.Reading.the-variants.{Table, Refused}
 use Rattle.files.specs.declared.output.Output.the-variants as output
 use Rattle.files.specs.Format.{two, four, kindOf, placeOf, matrixAt, post, frame, entryOf, scenarioOf}
@@ -44,7 +44,7 @@ unfolding file-of word
 case-n = file-of 1 4 6 1 4 (word 0 ++ word 52 ++ word 1 ++ word 0 ++ word 0 ++ word 54 ++ word 1 ++ word 0 ++ (10 ∷ 0 ∷ 3 ∷ 0 ∷ []))
 
 read-n : readAnswer (readVerdict case-n) case-n ≡ Table 1 4 6 1 4
-unfolding case-n file-of word readAnswer readVerdict rangesVerdict settingsVerdict ruleVerdict sizesVerdict then tableBad firstBad entryBad kindOf placeOf four two refuse firstBelow firstFrom
+unfolding case-n file-of word readAnswer readVerdict rangesVerdict ruleAndLimitVerdict ruleVerdict sizesVerdict then tableBad firstBad entryBad kindOf placeOf four two refuse firstBelow firstFrom
 read-n = refl
 
 scenario-n : scenarioOf case-n ≡ record { nodes = 1; slots = 4; limit = 6; rule = 1; entries = post (10 ∷ []) ∷ frame ∷ post (3 ∷ []) ∷ frame ∷ [] }
@@ -90,11 +90,11 @@ kinds : map (λ kind. entryBadOf 2 1 36 kind 0) (1 ∷ 2 ∷ 256 ∷ []) ≡ fal
 kinds = refl
 
 -- ---- the order: the first of two neighbours is given
--- An empty file is 10; one entry promised and none there with N 0 is 10; then 1, 2, 3, 7, so that B 0 with rule 2 is 3. No entries are accepted.
+-- An empty file is 10; one entry promised and none there with N 0 is 10; B 0 with rule 2 is 3. No entries are accepted.
 order :
     map (λ file. verdictNumber (readVerdict file)) ([] ∷ file-of 0 0 0 2 1 [] ∷ file-of 0 0 0 2 0 [] ∷ file-of 1 0 0 2 0 [] ∷ file-of 1 1 0 2 0 [] ∷ file-of 1 1 0 1 0 [] ∷ file-of 1 1 1 1 0 [] ∷ [])
     ≡ 10 ∷ 10 ∷ 1 ∷ 2 ∷ 3 ∷ 7 ∷ 0 ∷ []
-unfolding readVerdict rangesVerdict settingsVerdict ruleVerdict sizesVerdict then tableBad firstBad entryBad four two refuse firstBelow firstFrom file-of word
+unfolding readVerdict rangesVerdict ruleAndLimitVerdict ruleVerdict sizesVerdict then tableBad firstBad entryBad four two refuse firstBelow firstFrom file-of word
 order = refl
 
 -- An unknown kind comes after 7; of two bad entries the first gives the place.
@@ -102,7 +102,7 @@ entries-order :
     map (λ file. notice (verdictNumber (readVerdict file)) (verdictPlace (readVerdict file)))
     (file-of 1 1 0 1 1 (word 2 ++ word 0) ∷ file-of 1 1 1 1 1 (word 2 ++ word 0) ∷ file-of 1 1 1 1 3 (word 1 ++ word 0 ++ word 1 ++ word 9 ++ word 2 ++ word 0) ∷ [])
     ≡ notice 7 0 ∷ notice 10 0 ∷ notice 10 1 ∷ []
-unfolding readVerdict rangesVerdict settingsVerdict ruleVerdict sizesVerdict then tableBad firstBad entryBad kindOf placeOf four two refuse firstBelow firstFrom file-of word
+unfolding readVerdict rangesVerdict ruleAndLimitVerdict ruleVerdict sizesVerdict then tableBad firstBad entryBad kindOf placeOf four two refuse firstBelow firstFrom file-of word
 entries-order = refl
 
 -- the same in numbers

@@ -14,7 +14,7 @@ use Rattle.star.specs.declared.refusals.Refusal.the-variants.{BadFile}
 use Rattle.star.specs.declared.refusals.Verdict.{Verdict}
 use Rattle.star.specs.declared.refusals.Verdict.the-variants.{Accepted, Refused}
 use Rattle.star.specs.Refusals.{Notice, noticeOf, check, nodesOut, slotsOut, ruleOut, limitOut, Ranges}
-use Rattle.star.specs.Checks.{sizesVerdict, ruleVerdict, settingsVerdict, rangesVerdict, then}
+use Rattle.star.specs.Checks.{sizesVerdict, ruleVerdict, ruleAndLimitVerdict, rangesVerdict, then}
 use Rattle.star.proofs.RefusalLaws.{passes, in-numbers, passed, then-goes, then-passed, group-in-numbers, neither, neither-of, ranges-fit, ranged}
 use Rattle.files.specs.declared.reading.Reading.{Reading}
 use Rattle.files.specs.declared.reading.Reading.the-variants.{Table}
@@ -123,9 +123,9 @@ then-joined (Refused r) b c = refl
 -- the checks 1, 2, 3, 7 and the later ones
 pub ranges-in-numbers : (n l rule limit : ℕ) (later : Verdict) {rest : Notice} → noticeOf later ≡ rest →
     noticeOf (then (rangesVerdict n l rule limit) later) ≡ check (nodesOut n) 1 0 (check (slotsOut l) 2 0 (check (ruleOut rule) 3 0 (check (limitOut limit) 7 0 rest)))
-unfolding rangesVerdict settingsVerdict ruleVerdict sizesVerdict then
+unfolding rangesVerdict ruleAndLimitVerdict ruleVerdict sizesVerdict then
 ranges-in-numbers n l rule limit later e =
-    ap noticeOf (then-joined (sizesVerdict n l) (settingsVerdict rule limit) later)
+    ap noticeOf (then-joined (sizesVerdict n l) (ruleAndLimitVerdict rule limit) later)
     ∙ group-in-numbers _ _ _ _ (group-in-numbers _ _ _ _
     (ap noticeOf (then-joined (ruleVerdict rule) _ later) ∙ group-in-numbers _ _ _ _ (group-in-numbers _ _ _ _ e)))
 

@@ -70,7 +70,7 @@ fn play_frame(old: Run, waiting: &mut [u32], posted: &[u64], sent: &mut [u64], d
 }
 
 // The record after an accepted post.
-fn after_post(old: Run) -> Run
+fn posted_record(old: Run) -> Run
     requires { ⌜ old .posts < 1000000 ⌝ }
     ensures { λ r. ⌜ r ≡ postRun old ⌝ }
 {
@@ -85,7 +85,7 @@ fn after_post(old: Run) -> Run
 }
 
 // The record after an accepted frame.
-fn after_frame(old: Run) -> Run
+fn framed_record(old: Run) -> Run
     requires { ⌜ old .frames < 1000000 ⌝ }
     ensures { λ r. ⌜ r ≡ frameRun old ⌝ }
 {
@@ -116,10 +116,10 @@ fn play_entry(
     if four(file, 20 + 8 * e) == 0 {
         let at = four(file, 24 + 8 * e) as usize;
         play_post(file, at, old, waiting, posted, sent, dropped);
-        return after_post(old);
+        return posted_record(old);
     }
     play_frame(old, waiting, posted, sent, dropped);
-    after_frame(old)
+    framed_record(old)
 }
 
 // Plays every entry after a fresh start, and gives the record then.

@@ -8,7 +8,7 @@ use Rattle.star.specs.declared.refusals.Verdict.{Verdict}
 use Rattle.star.specs.declared.refusals.Verdict.the-variants.{Accepted, Refused}
 use Rattle.star.specs.Tables.{Alike}
 use Rattle.star.proofs.RefusalLaws.{promise-same}
-use Rattle.books.proofs.QueueLaws.{zeroed-length, more-length, overflowed-length, queued-length, zeroed-alike, more-alike, queued-alike, overflowed-alike}
+use Rattle.books.proofs.QueueLaws.{zeroed-length, increased-length, overflowed-length, queued-length, zeroed-alike, increased-alike, queued-alike, overflowed-alike}
 use Rattle.calls.specs.Held.{Held, LongEnough, HeldAlike, postRun}
 use Rattle.calls.specs.Checks.{freshVerdict}
 use Rattle.calls.specs.Runs.{Freshened, Posted}
@@ -77,7 +77,7 @@ post-lengths arrivals {h} Accepted c =
     let n = h .run .nodes in
     subst (λ x. SameLengths h x) (sym (c .accepted refl)) (record {
       waiting = queued-length n (h .run .limit) arrivals (h .waiting) (room .waiting);
-      posted = more-length n arrivals (h .posted) (room .posted);
+      posted = increased-length n arrivals (h .posted) (room .posted);
       sent = refl;
       dropped = overflowed-length n (h .run .limit) arrivals (h .waiting) (h .dropped) (room .dropped);
     })
@@ -90,7 +90,7 @@ module _ (a b : List ℕ) (h h' g g' : Held) (given : Alike (h .run .nodes * h .
       alike-same (c .accepted refl) (d .accepted refl) (record {
         run = ap postRun (same .run);
         waiting = rw (sym (same .run)) (queued-alike n given (same .waiting) (h .run .limit));
-        posted = rw (sym (same .run)) (more-alike n given (same .posted));
+        posted = rw (sym (same .run)) (increased-alike n given (same .posted));
         sent = same .sent;
         dropped = rw (sym (same .run)) (overflowed-alike n given (same .waiting) (h .run .limit) (same .dropped));
       })

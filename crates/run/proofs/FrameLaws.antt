@@ -15,7 +15,7 @@ use Rattle.planner.specs.Theorems.{SameAsNeeded}
 use Rattle.planner.specs.Lent.{Lent, LentRoom}
 use Rattle.planner.proofs.PlanLaws.{plan-notice, plan-accepts}
 use Rattle.planner.proofs.PlanTheorems.{plan-theorems}
-use Rattle.books.proofs.QueueLaws.{more-length, served-length, more-alike, served-alike}
+use Rattle.books.proofs.QueueLaws.{increased-length, served-length, increased-alike, served-alike}
 use Rattle.calls.specs.Held.{Held, HeldAlike, frameRun, afterFrame}
 use Rattle.calls.specs.Runs.{Framed}
 use Rattle.calls.proofs.Verdicts.{frame-accepts, frame-accepted, alike-frame}
@@ -77,7 +77,7 @@ frame-lengths k k' h h' (answer.Planned f) c =
       subst (λ x. SameLengths h x) (sym (done .after)) (record {
         waiting = served-length (h .run .nodes) (k' .kept) (h .waiting) (room .waiting);
         posted = refl;
-        sent = more-length (h .run .nodes) (k' .kept) (h .sent) (room .sent);
+        sent = increased-length (h .run .nodes) (k' .kept) (h .sent) (room .sent);
         dropped = refl;
       }),
       done .plan .wrote .kept-length,
@@ -100,7 +100,7 @@ module _ (k k₁ x k₂ : Lent) (h h₁ g h₂ : Held) (same : HeldAlike (h .run
           run = ap frameRun (same .run);
           waiting = rw (sym (same .run)) (served-alike (h .run .nodes) kept (same .waiting));
           posted = same .posted;
-          sent = rw (sym (same .run)) (more-alike (h .run .nodes) kept (same .sent));
+          sent = rw (sym (same .run)) (increased-alike (h .run .nodes) kept (same .sent));
           dropped = same .dropped;
         })
 

@@ -18,8 +18,8 @@ use Rattle.planner.specs.declared.answers.Answer.the-variants as answer
 use Rattle.planner.specs.Plans.{PlanDone}
 use Rattle.planner.specs.Lent.{Lent}
 use Rattle.planner.proofs.PlanLaws.{plan-below}
-use Rattle.books.specs.Queues.{more, overflowed, queued, served}
-use Rattle.books.proofs.QueueLaws.{zeroed-cell, more-cell, overflowed-cell, queued-cell, served-cell}
+use Rattle.books.specs.Queues.{increased, overflowed, queued, served}
+use Rattle.books.proofs.QueueLaws.{zeroed-cell, increased-cell, overflowed-cell, queued-cell, served-cell}
 use Rattle.calls.specs.Held.{Held, LongEnough}
 use Rattle.calls.specs.Runs.{Freshened, Posted, Framed}
 use Rattle.calls.proofs.Verdicts.{fresh-accepted, post-accepted}
@@ -134,7 +134,7 @@ now-unmoved {n} {l} {limit} {rule} {e} {es} {h} u same now = subst (λ x. Now n 
 -- ---- a post
 module _ {n l limit rule : ℕ} {es : List Event} (arrivals : List ℕ) {h h' : Held} (now : Now n l limit rule es h) (c : Posted arrivals h h' Accepted) (i j : ℕ) (hi : i < n) (hj : j < n) where
   more-posted : cell n (h' .posted) i j ≡ cell n (h .posted) i j + cell n arrivals i j
-  more-posted = ap (λ x. cell n (x .posted) i j) (c .accepted refl) ∙ ap (λ m. cell n (more m arrivals (h .posted)) i j) (now .nodes) ∙ more-cell n i j hi hj arrivals (h .posted)
+  more-posted = ap (λ x. cell n (x .posted) i j) (c .accepted refl) ∙ ap (λ m. cell n (increased m arrivals (h .posted)) i j) (now .nodes) ∙ increased-cell n i j hi hj arrivals (h .posted)
 
   more-dropped : cell n (h' .dropped) i j ≡ cell n (h .dropped) i j + (cell n (h .waiting) i j + cell n arrivals i j - limit)
   more-dropped =
@@ -193,8 +193,8 @@ module _ {n l limit rule : ℕ} {es : List Event} {lent plan : Lent} {f : Report
     more-sent : cell n (h' .sent) i j ≡ cell n (h .sent) i j + count n l (plan .schedule) i j
     more-sent =
         ap (λ x. cell n (x .sent) i j) (c .accepted refl .after)
-        ∙ ap (λ m. cell n (more m (plan .kept) (h .sent)) i j) (now .nodes)
-        ∙ more-cell n i j hi hj (plan .kept) (h .sent)
+        ∙ ap (λ m. cell n (increased m (plan .kept) (h .sent)) i j) (now .nodes)
+        ∙ increased-cell n i j hi hj (plan .kept) (h .sent)
         ∙ ap (λ x. cell n (h .sent) i j + x) (sym (planned .wrote .plan .carried .exact i j hi hj))
 
     same-posted : cell n (h' .posted) i j ≡ cell n (h .posted) i j

@@ -15,7 +15,7 @@ use Rattle.star.specs.declared.refusals.Refusal.the-variants.{Nodes, Slo
 use Rattle.star.specs.declared.refusals.Verdict.the-variants.{Accepted, Refused}
 use Rattle.star.specs.Lines.{sourceOn, destinationOn, onLine, lineSum, total, wholeFrame, slack, overflows, excess, critical, Admissible}
 use Rattle.star.specs.Refusals.{refusalNumber, refusalPlace, verdictNumber, verdictPlace, nodesOut, slotsOut, ruleOut, limitOut, short, spent, someCell, firstAbove}
-use Rattle.star.specs.Checks.{sizesVerdict, ruleVerdict, settingsVerdict, rangesVerdict, demandShortVerdict, demandAboveVerdict, refuse, then}
+use Rattle.star.specs.Checks.{sizesVerdict, ruleVerdict, ruleAndLimitVerdict, rangesVerdict, demandShortVerdict, demandAboveVerdict, refuse, then}
 use Rattle.star.specs.Schedules.{ConflictFree, count, refusedBy, differ, reconfigurations}
 
 -- ---- what is refused
@@ -80,12 +80,12 @@ sizes-accepted = refl
 -- The checks run in the order 1, 2, 3, 7: the first of two neighbours is given, and B 0 with rule 2 is 3.
 ranges-order :
     map verdictNumber (rangesVerdict 0 0 2 0 ∷ rangesVerdict 1 0 2 0 ∷ rangesVerdict 1 1 2 0 ∷ rangesVerdict 1 1 1 0 ∷ rangesVerdict 1 1 0 65536 ∷ []) ≡ 1 ∷ 2 ∷ 3 ∷ 7 ∷ 7 ∷ []
-unfolding rangesVerdict settingsVerdict ruleVerdict sizesVerdict then refuse
+unfolding rangesVerdict ruleAndLimitVerdict ruleVerdict sizesVerdict then refuse
 ranges-order = refl
 
 -- both ends of all ranges
 ranges-accepted : rangesVerdict 1 1 0 1 ∷ rangesVerdict 64 1024 1 65535 ∷ [] ≡ Accepted ∷ Accepted ∷ []
-unfolding rangesVerdict settingsVerdict ruleVerdict sizesVerdict then refuse
+unfolding rangesVerdict ruleAndLimitVerdict ruleVerdict sizesVerdict then refuse
 ranges-accepted = refl
 
 -- Groups after each other: the first refusal is given, and what has passed leaves it to the later group.

@@ -16,7 +16,7 @@ use Rattle.star.specs.declared.refusals.Verdict.{Verdict}
 use Rattle.star.specs.declared.refusals.Verdict.the-variants.{Accepted, Refused}
 use Rattle.star.specs.Tables.{Demands}
 use Rattle.star.specs.Refusals.{Notice, noticeOf, check, refusalNumber, refusalPlace, Promise, outside, nodesOut, slotsOut, ruleOut, limitOut, someCell, firstAboveIn, firstAbove, Sizes, Ranges}
-use Rattle.star.specs.Checks.{sizesVerdict, ruleVerdict, settingsVerdict, rangesVerdict, demandShortVerdict, demandAboveVerdict, refuse, then}
+use Rattle.star.specs.Checks.{sizesVerdict, ruleVerdict, ruleAndLimitVerdict, rangesVerdict, demandShortVerdict, demandAboveVerdict, refuse, then}
 
 pub fires : {b : Bool} {r : Refusal} (later : Verdict) → b ≡ true → Refused r ≡ refuse b r later
 unfolding refuse
@@ -149,12 +149,12 @@ ruled rule e = ltb-false 1 rule (passed _ _ _ e .0)
 
 -- ---- 1, 2, 3, 7
 pub ranges-fit : (n l rule limit : ℕ) → Ranges n l rule limit → Accepted ≡ rangesVerdict n l rule limit
-unfolding rangesVerdict settingsVerdict
+unfolding rangesVerdict ruleAndLimitVerdict
 ranges-fit n l rule limit r =
     then-goes (sizes-fit n l (r .sizes)) refl (then-goes (rule-fits rule (r .known-rule)) refl (passes QueueLimit (inside 1 65535 limit (r .some-limit) (r .known-limit)) refl))
 
 pub ranged : (n l rule limit : ℕ) → rangesVerdict n l rule limit ≡ Accepted → Ranges n l rule limit
-unfolding rangesVerdict settingsVerdict
+unfolding rangesVerdict ruleAndLimitVerdict
 ranged n l rule limit e =
     let a = then-passed _ _ e in
     let b = then-passed _ _ (a .1) in
@@ -163,7 +163,7 @@ ranged n l rule limit e =
 
 pub ranges-in-numbers : (n l rule limit : ℕ) (later : Verdict) {rest : Notice} → noticeOf later ≡ rest →
     noticeOf (then (rangesVerdict n l rule limit) later) ≡ check (nodesOut n) 1 0 (check (slotsOut l) 2 0 (check (ruleOut rule) 3 0 (check (limitOut limit) 7 0 rest)))
-unfolding rangesVerdict settingsVerdict ruleVerdict sizesVerdict
+unfolding rangesVerdict ruleAndLimitVerdict ruleVerdict sizesVerdict
 ranges-in-numbers n l rule limit later e =
     group-inside _ _ _ (group-in-numbers _ _ _ _ (group-in-numbers _ _ _ _ (group-ends _
     (group-inside _ _ _ (group-in-numbers _ _ _ _ (group-ends _ (group-in-numbers _ _ _ _ (group-ends _ e))))))))

@@ -28,12 +28,12 @@ unfoldable pub ruleVerdict : (rule : ℕ) → Verdict
 ruleVerdict rule = refuse (ruleOut rule) Rule Accepted
 
 -- 3, 7
-unfoldable pub settingsVerdict : (rule limit : ℕ) → Verdict
-settingsVerdict rule limit = then (ruleVerdict rule) (refuse (limitOut limit) QueueLimit Accepted)
+unfoldable pub ruleAndLimitVerdict : (rule limit : ℕ) → Verdict
+ruleAndLimitVerdict rule limit = then (ruleVerdict rule) (refuse (limitOut limit) QueueLimit Accepted)
 
 -- 1, 2 | 3, 7
 unfoldable pub rangesVerdict : (n l rule limit : ℕ) → Verdict
-rangesVerdict n l rule limit = then (sizesVerdict n l) (settingsVerdict rule limit)
+rangesVerdict n l rule limit = then (sizesVerdict n l) (ruleAndLimitVerdict rule limit)
 
 -- 4: a demand or arrivals of so many cells
 unfoldable pub demandShortVerdict : (n cells : ℕ) → Verdict

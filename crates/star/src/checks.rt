@@ -5,7 +5,7 @@ use crate::refusals::Verdict;
 ghost use mathlib.Core.Path.{_≡_};
 ghost use Prim.Native.Nat.{_≤_};
 ghost use Rattle.star.specs.Refusals.{outside};
-ghost use Rattle.star.specs.Checks.{sizesVerdict, ruleVerdict, settingsVerdict, rangesVerdict, demandShortVerdict, demandAboveVerdict};
+ghost use Rattle.star.specs.Checks.{sizesVerdict, ruleVerdict, ruleAndLimitVerdict, rangesVerdict, demandShortVerdict, demandAboveVerdict};
 ghost use Rattle.star.specs.Rooms.{Square};
 
 // Whether a number is outside its range.
@@ -48,8 +48,8 @@ pub fn known_rule(rule: u32) -> Verdict
 }
 
 // The rule (3) and B (7).
-fn settings(rule: u32, limit: u32) -> Verdict
-    ensures { λ v. ⌜ v ≡ settingsVerdict rule limit ⌝ }
+fn rule_and_limit(rule: u32, limit: u32) -> Verdict
+    ensures { λ v. ⌜ v ≡ ruleAndLimitVerdict rule limit ⌝ }
 {
     let v = known_rule(rule);
     let Verdict::Accepted = v else {
@@ -71,7 +71,7 @@ pub fn ranges(nodes: u32, slots: u32, rule: u32, limit: u32) -> Verdict
     let Verdict::Accepted = v else {
         return v;
     };
-    settings(rule, limit)
+    rule_and_limit(rule, limit)
 }
 
 // A demand or arrivals of so many cells, too short (4).

@@ -139,10 +139,6 @@ module _ {A : Type 0} (m : ℕ) (new old : List A) (fits : length new ≡ m) whe
   unfolding written
   written-length room = omega (arith, length-append new (drop m old), length-drop m old)
 
-pub written-cell : (n : ℕ) (new old : List ℕ) → length new ≡ n * n → (i j : ℕ) → i < n → j < n → cell n (written (n * n) new old) i j ≡ cell n new i j
-unfolding cell
-written-cell n new old fits i j hi hj = written-at (n * n) new old fits (i * n + j) (cell-lt n i j hi hj)
-
 -- a table whose first n * n cells are known has their pairs
 pub take-cell : (n : ℕ) (t new : List ℕ) → take (n * n) t ≡ new → (i j : ℕ) → i < n → j < n → cell n t i j ≡ cell n new i j
 unfolding cell

@@ -15,7 +15,7 @@ use Rattle.star.specs.declared.refusals.Verdict.{Verdict}
 use Rattle.star.specs.declared.refusals.Verdict.the-variants.{Accepted}
 use Rattle.star.specs.Refusals.{check, firstAbove}
 use Rattle.star.specs.Lines.{wholeFrame, lineSum, onLine, sourceOn, destinationOn, total, slack, excess}
-use Rattle.star.specs.Checks.{sizesVerdict, ruleVerdict, settingsVerdict, rangesVerdict, demandShortVerdict, demandAboveVerdict, refuse, then}
+use Rattle.star.specs.Checks.{sizesVerdict, ruleVerdict, ruleAndLimitVerdict, rangesVerdict, demandShortVerdict, demandAboveVerdict, refuse, then}
 use Rattle.star.specs.Schedules.{Carries, count, differ, reconfigurations}
 use Rattle.star.proofs.RefusalLaws.{promise-done}
 use Rattle.flow.specs.Flows.{cut}
@@ -27,7 +27,7 @@ use Rattle.planner.specs.declared.answers.Answer.the-variants.{Planned}
 use Rattle.planner.specs.Lent.{Lent, lent, LentRoom}
 use Rattle.planner.specs.Checks.{lentShortVerdict}
 use Rattle.books.specs.Books.{booksAgree, firstDisagreeing}
-use Rattle.books.specs.Queues.{zeroed, more, overflowed, queued, served}
+use Rattle.books.specs.Queues.{zeroed, increased, overflowed, queued, served}
 use Rattle.calls.specs.declared.record.Run.{Run}
 use Rattle.calls.specs.Held.{Held}
 use Rattle.calls.specs.Checks.{heldShortVerdict, agreementVerdict, countVerdict, freshVerdict, postVerdict, frameVerdict}
@@ -42,14 +42,14 @@ one posts frames = record { nodes = 1; slots = 4; limit = 6; rule = 1; posts = p
 
 -- ---- fresh
 fresh-step : (old : Run) (w p s d : ℕ) (h : Held) (v : Verdict) → Freshened 1 4 6 1 (ofOne old w p s d) h v → h ≡ ofOne (one 0 0) 0 0 0 0
-unfolding freshVerdict rangesVerdict settingsVerdict ruleVerdict sizesVerdict heldShortVerdict then refuse zeroed written
+unfolding freshVerdict rangesVerdict ruleAndLimitVerdict ruleVerdict sizesVerdict heldShortVerdict then refuse zeroed written
 fresh-step old w p s d h v call = call .accepted (call .answer)
 
 -- ---- post
 post-step : (x posts frames w p s d : ℕ) (h h' : Held) (v : Verdict) → h ≡ ofOne (one posts frames) w p s d →
     postVerdict (x ∷ []) (ofOne (one posts frames) w p s d) ≡ Accepted → Posted (x ∷ []) h h' v →
     h' ≡ ofOne (one (posts + 1) frames) (min (w + x) 6) (p + x) s (d + (w + x - 6))
-unfolding queued more overflowed written tab
+unfolding queued increased overflowed written tab
 post-step x posts frames w p s d h h' v e accepted call = let f = subst (λ y. Posted (x ∷ []) y h' v) e call in f .accepted (f .answer ∙ accepted)
 
 -- ---- frame
@@ -80,7 +80,7 @@ long-accepted x posts frames p s d k room e =
 frame-step : (x y posts frames p s d : ℕ) (h h' : Held) (r : Answer) (k k' : Lent) → h ≡ ofOne (one posts frames) x p s d → LentRoom 1 4 k →
     frameVerdict (ofOne (one posts frames) x p s d) 1 1 4 ≡ Accepted → x - y ≡ 4 → Greatest 1 (wholeFrame 1 4) (x ∷ []) (y ∷ []) → Framed k k' h h' r →
     h' ≡ ofOne (one posts (frames + 1)) (x - 4) p (s + 4) d
-unfolding served more written tab
+unfolding served increased written tab
 frame-step x y posts frames p s d h h' r k k' e room accepted leaves g call =
     let f = subst (λ z. Framed k k' z h' r) e call in
     let done = f .accepted (f .answer ∙ long-accepted x posts frames p s d k room accepted) in
@@ -121,7 +121,7 @@ sendsFour refused = record { kept = 4; refused = refused; reconfigurations = 0 }
 sends-four : (x y posts frames p s d k a : ℕ) → frameVerdict (ofOne (one posts frames) x p s d) 1 1 4 ≡ Accepted → x - y ≡ 4 → y ≡ x - 4 →
     Greatest 1 (wholeFrame 1 4) (x ∷ []) (y ∷ []) →
     Framed (smallest k a) (smallest 4 y) (ofOne (one posts frames) x p s d) (ofOne (one posts (frames + 1)) (x - 4) p (s + 4) d) (Planned (sendsFour y))
-unfolding served more written tab total sumTo cell reconfigurations differ someBelow
+unfolding served increased written tab total sumTo cell reconfigurations differ someBelow
 sends-four x y posts frames p s d k a accepted leaves takes g =
     promise-done (sym accepted) (frame-notice (ofOne (one posts frames) x p s d) 1 1 4) _ _ refl (record {
       plan = record {
@@ -144,8 +144,8 @@ sends-four x y posts frames p s d k a accepted leaves takes g =
     })
 
 pub one-node : RunLine 10 3 13 8 4 1
-unfolding freshVerdict freshNotice postVerdict postNotice check frameVerdict rangesVerdict settingsVerdict ruleVerdict sizesVerdict demandShortVerdict demandAboveVerdict heldShortVerdict lentShortVerdict agreementVerdict countVerdict then refuse
-    firstDisagreeing booksAgree firstBelow firstFrom firstAbove zeroed more overflowed queued written tab
+unfolding freshVerdict freshNotice postVerdict postNotice check frameVerdict rangesVerdict ruleAndLimitVerdict ruleVerdict sizesVerdict demandShortVerdict demandAboveVerdict heldShortVerdict lentShortVerdict agreementVerdict countVerdict then refuse
+    firstDisagreeing booksAgree firstBelow firstFrom firstAbove zeroed increased overflowed queued written tab
 one-node = record {
   ends = λ old w p s d k₁ k₁' k₂ k₂' h₁ h₂ h₃ h₄ h₅ v₀ v₁ v₂ r₁ r₂ room₁ room₂ run.
       let e₁ = fresh-step old w p s d h₁ v₀ (run .fresh) in

@@ -32,8 +32,8 @@ play-post-requires : tie.Need-play-post-requires
 unfolding kindOf placeOf
 play-post-requires c κs = (omega (arith, can-nodes (c .before .before .before .before .before .before .before .before .before .before .before .before .pre .0), can-sound (c .before .before .before .before .before .before .before .before .before .before .before .before .pre .0) .ranges .sizes .nodes), omega (arith, c .before .before .before .before .four2 .ensures, post-within (c .before .before .before .before .before .before .before .before .before .before .before .before .pre .0) (c .before .before .before .before .before .before .before .before .before .before .before .before .pre .1) (sym (c .before .before .before .before .before .before .four .ensures) ∙ c .before .before .before .before .before .if1 .taken)))
 
-after-post-requires : tie.Need-after-post-requires
-after-post-requires c κs = few-posts (c .before .before .before .before .before .before .before .before .before .before .before .before .before .before .before .before .before .before .before .pre .0) (c .before .before .before .before .before .before .before .before .before .before .before .before .before .before .before .before .before .before .before .pre .1)
+posted-record-requires : tie.Need-posted-record-requires
+posted-record-requires c κs = few-posts (c .before .before .before .before .before .before .before .before .before .before .before .before .before .before .before .before .before .before .before .pre .0) (c .before .before .before .before .before .before .before .before .before .before .before .before .before .before .before .before .before .before .before .pre .1)
 
 same-length : tie.Need-same-length
 same-length c = search needs
@@ -49,13 +49,13 @@ same-length-4 c = search needs
 
 returns : tie.Need-returns
 unfolding kindOf placeOf
-returns c = played-post-at (c .before .before .before .before .before .before .before .before .before .before .before .before .before .before .before .before .before .before .before .before .pre .0) (c .before .before .before .before .before .before .before .before .before .before .before .before .before .before .before .before .before .before .before .before .pre .1) (sym (c .before .before .before .before .before .before .before .before .before .before .before .before .before .before .four .ensures) ∙ c .before .before .before .before .before .before .before .before .before .before .before .before .before .if1 .taken) (c .before .before .before .before .before .before .before .before .before .before .before .before .four2 .ensures) (c .before .before .before .before .before .before .before .play-post .ensures) (c .after-post .ensures)
+returns c = played-post-at (c .before .before .before .before .before .before .before .before .before .before .before .before .before .before .before .before .before .before .before .before .pre .0) (c .before .before .before .before .before .before .before .before .before .before .before .before .before .before .before .before .before .before .before .before .pre .1) (sym (c .before .before .before .before .before .before .before .before .before .before .before .before .before .before .four .ensures) ∙ c .before .before .before .before .before .before .before .before .before .before .before .before .before .if1 .taken) (c .before .before .before .before .before .before .before .before .before .before .before .before .four2 .ensures) (c .before .before .before .before .before .before .before .play-post .ensures) (c .posted-record .ensures)
 
 play-frame-requires : tie.Need-play-frame-requires
 play-frame-requires c κs = search needs
 
-after-frame-requires : tie.Need-after-frame-requires
-after-frame-requires c κs = few-frames (c .before .before .before .before .before .before .before .before .before .before .before .before .before .before .before .before .pre .0) (c .before .before .before .before .before .before .before .before .before .before .before .before .before .before .before .before .pre .1)
+framed-record-requires : tie.Need-framed-record-requires
+framed-record-requires c κs = few-frames (c .before .before .before .before .before .before .before .before .before .before .before .before .before .before .before .before .pre .0) (c .before .before .before .before .before .before .before .before .before .before .before .before .before .before .before .before .pre .1)
 
 same-length-5 : tie.Need-same-length-5
 same-length-5 c = search needs
@@ -71,7 +71,7 @@ same-length-8 c = search needs
 
 returns-2 : tie.Need-returns-2
 unfolding kindOf
-returns-2 c = played-frame (c .before .before .before .before .before .before .before .before .before .before .before .before .before .before .before .before .before .pre .0) (c .before .before .before .before .before .before .before .before .before .before .before .before .before .before .before .before .before .pre .1) (c .before .before .before .before .before .play-frame .ensures) (λ z. c .before .before .before .before .before .before .before .before .before .before .if1 .left (c .before .before .before .before .before .before .before .before .before .before .before .four .ensures ∙ z)) (c .after-frame .ensures)
+returns-2 c = played-frame (c .before .before .before .before .before .before .before .before .before .before .before .before .before .before .before .before .before .pre .0) (c .before .before .before .before .before .before .before .before .before .before .before .before .before .before .before .before .before .pre .1) (c .before .before .before .before .before .play-frame .ensures) (λ z. c .before .before .before .before .before .before .before .before .before .before .if1 .left (c .before .before .before .before .before .before .before .before .before .before .before .four .ensures ∙ z)) (c .framed-record .ensures)
 
 pub play-entry-spec : {M : Type 1} → statement M
 play-entry-spec =
@@ -85,14 +85,14 @@ play-entry-spec =
     four-requires-2
     cast-at
     play-post-requires
-    after-post-requires
+    posted-record-requires
     same-length
     same-length-2
     same-length-3
     same-length-4
     returns
     play-frame-requires
-    after-frame-requires
+    framed-record-requires
     same-length-5
     same-length-6
     same-length-7

@@ -5,7 +5,7 @@ use mathlib.Core.Path.{_≡_, refl}
 use lib.ListN.{getD}
 use Rattle.sums.proofs.Tables.{mul-small}
 use Rattle.sums.proofs.Fills.{Filled, filled-none, filled-next, filled-more, filled-all}
-use Rattle.books.specs.Queues.{more}
+use Rattle.books.specs.Queues.{increased}
 use Rattle.books.proofs.amounts.add.Statement.{statement}
 use Rattle.books.proofs.amounts.add.Tie as tie
 
@@ -58,7 +58,7 @@ same-length : tie.Need-same-length Inv-loop μ-loop
 same-length c = c .before .loop .inv .2 .same-size
 
 returns : tie.Need-returns Inv-loop μ-loop
-unfolding more
+unfolding increased
 returns c = filled-all (c .before .before .args .n * c .before .before .args .n) (c .before .loop .inv .2) (omega arith)
 
 pub add-spec : {M : Type 1} → statement M

@@ -18,13 +18,13 @@ returns : tie.Need-returns
 unfolding rangesVerdict
 returns c = then-stops _ (c .before .before .sizes .ensures) (c .enum-told2 .given .1)
 
-settings-requires : tie.Need-settings-requires
-settings-requires c κs = search needs
+rule-and-limit-requires : tie.Need-rule-and-limit-requires
+rule-and-limit-requires c κs = search needs
 
 returns-2 : tie.Need-returns-2
 unfolding rangesVerdict
-returns-2 c = then-goes (c .before .before .before .sizes .ensures) (c .before .enum-told .given .1) (c .settings .ensures)
+returns-2 c = then-goes (c .before .before .before .sizes .ensures) (c .before .enum-told .given .1) (c .rule-and-limit .ensures)
 
 pub ranges-spec : {M : Type 1} → statement M
 ranges-spec =
-    tie.close (tie.spec sizes-requires enum-told enum-told-2 returns settings-requires returns-2)
+    tie.close (tie.spec sizes-requires enum-told enum-told-2 returns rule-and-limit-requires returns-2)
