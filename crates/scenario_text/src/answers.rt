@@ -23,7 +23,7 @@ ghost use Rattle.scenario_text.specs.Lines.{longestText};
 ghost use Rattle.scenario_text.specs.Outcomes.{PrintsFile, PrintsRun, PrintResult};
 
 // Bytes enough for the longest text.
-pub const ROOM: usize = 516096;
+pub const LONGEST_TEXT: usize = 516096;
 
 // Prints a refusal.
 fn put_refused_file(out: &mut [u8], refusal: Refusal) -> usize
@@ -68,7 +68,7 @@ fn put_outcome(out: &mut [u8], input: &[u8]) -> usize
 }
 
 // Writes the answer to an input at the front of `out`, and gives its length.
-pub fn answer(input: &[u8], out: &mut [u8; ROOM]) -> usize
+pub fn answer(input: &[u8], out: &mut [u8; LONGEST_TEXT]) -> usize
     ensures { λ r. ⌜ Answered (PrintsFile (now (input .entry))) (now (out .entry)) (now (out .exit)) r ⌝ }
 {
     put_outcome(out, input)
@@ -78,7 +78,7 @@ pub fn answer(input: &[u8], out: &mut [u8; ROOM]) -> usize
 pub fn print(file: &[u8], text: &mut [u8]) -> Output
     ensures { λ r. ⌜ PrintResult (now (file .entry)) (now (text .entry)) (now (text .exit)) r ⌝ }
 {
-    if text.len() < ROOM {
+    if text.len() < LONGEST_TEXT {
         return Output::Refused {
             refusal: Refusal::TableShort,
         };
