@@ -16,13 +16,13 @@ slice-aggregate-frame-on-3 : tie.Need-slice-aggregate-frame-on-3
 slice-aggregate-frame-on-3 c = search needs
 
 frame-on-requires : tie.Need-frame-on-requires
-frame-on-requires c κs = search needs
+frame-on-requires c κs = tt
 
 same-length : tie.Need-same-length
-same-length c = search needs
+same-length c = c .before .before .before .before .before .before .before .frame-on .kept .1 .0
 
 same-length-2 : tie.Need-same-length-2
-same-length-2 c = search needs
+same-length-2 c = c .before .before .before .before .before .before .before .frame-on .kept .1 .1 .1 .0
 
 returns : tie.Need-returns
 returns c = frame-played _ _ (c .before .before .before .before .before .before .before .frame-on .result) (c .before .before .before .before .before .before .before .frame-on .ensures) (length-replicate {A = ℕ} 4096 0) (length-replicate {A = ℕ} 4096 0) (length-replicate {A = ℕ} 65536 0)

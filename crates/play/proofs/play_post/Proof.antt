@@ -29,16 +29,16 @@ slice-aggregate-post-on : tie.Need-slice-aggregate-post-on
 slice-aggregate-post-on c = sym (length-take-le _ _ (omega (arith, mul-small (c .before .before .before .before .before .before .before .before .before .before .args .old .nodes) (c .before .before .before .before .before .before .before .before .before .before .args .old .nodes) (c .before .before .before .before .before .before .before .before .before .before .pre .0) (c .before .before .before .before .before .before .before .before .before .before .pre .0), c .before .before .read-cells .kept .1 .1 .0, length-replicate {A = ℕ} 4096 0)))
 
 post-on-requires : tie.Need-post-on-requires
-post-on-requires c κs = search needs
+post-on-requires c κs = tt
 
 same-length : tie.Need-same-length
-same-length c = search needs
+same-length c = c .before .before .before .before .before .before .post-on .kept .1 .1 .0
 
 same-length-2 : tie.Need-same-length-2
-same-length-2 c = search needs
+same-length-2 c = c .before .before .before .before .before .before .post-on .kept .1 .1 .1 .0
 
 same-length-3 : tie.Need-same-length-3
-same-length-3 c = search needs
+same-length-3 c = c .before .before .before .before .before .before .post-on .kept .1 .1 .1 .1 .1 .0
 
 returns : tie.Need-returns
 returns c = post-played _ _ (c .before .before .before .before .before .before .before .before .before .before .before .before .read-cells .ensures .0) (c .before .before .before .before .before .before .before .before .before .before .before .before .read-cells .ensures .1) (c .before .before .before .before .before .before .post-on .ensures)

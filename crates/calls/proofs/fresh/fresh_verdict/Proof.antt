@@ -1,19 +1,18 @@
 -- `fresh_verdict` meets its contract: the groups in their order. Assumes nothing.
 use mathlib.Core.Path.{sym, _∙_}
-use borrow.Author.Needs.{needs}
 use Rattle.star.proofs.RefusalLaws.{then-stops, then-goes, ranged}
 use Rattle.calls.specs.Checks.{freshVerdict}
 use Rattle.calls.proofs.fresh.fresh_verdict.Statement.{statement}
 use Rattle.calls.proofs.fresh.fresh_verdict.Tie as tie
 
 ranges-requires : tie.Need-ranges-requires
-ranges-requires c κs = search needs
+ranges-requires c κs = tt
 
 enum-told : tie.Need-enum-told
-enum-told c = search needs
+enum-told c = c .match .keys1
 
 enum-told-2 : tie.Need-enum-told-2
-enum-told-2 c = search needs
+enum-told-2 c = c .match .keys2
 
 returns : tie.Need-returns
 unfolding freshVerdict

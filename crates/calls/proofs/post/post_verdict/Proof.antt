@@ -9,13 +9,13 @@ use Rattle.calls.proofs.post.post_verdict.Statement.{statement}
 use Rattle.calls.proofs.post.post_verdict.Tie as tie
 
 ranges-requires : tie.Need-ranges-requires
-ranges-requires c κs = search needs
+ranges-requires c κs = tt
 
 enum-told : tie.Need-enum-told
-enum-told c = search needs
+enum-told c = c .match .keys1
 
 enum-told-2 : tie.Need-enum-told-2
-enum-told-2 c = search needs
+enum-told-2 c = c .match .keys2
 
 returns : tie.Need-returns
 unfolding postVerdict
@@ -28,10 +28,10 @@ demand-short-requires : tie.Need-demand-short-requires
 demand-short-requires c κs = let o = c .before .before .before .before .before .before .before .before .before .args .old in ranged (o .nodes) (o .slots) (o .rule) (o .limit) (sym (c .before .before .before .ranges .ensures) ∙ c .before .enum-told .given .1) .sizes .nodes
 
 enum-told-3 : tie.Need-enum-told-3
-enum-told-3 c = search needs
+enum-told-3 c = c .match2 .keys1
 
 enum-told-4 : tie.Need-enum-told-4
-enum-told-4 c = search needs
+enum-told-4 c = c .match2 .keys2
 
 returns-2 : tie.Need-returns-2
 unfolding postVerdict
@@ -41,10 +41,10 @@ held-short-requires : tie.Need-held-short-requires
 held-short-requires c κs = let o = c .before .before .before .before .before .before .before .before .before .before .before .before .args .old in ranged (o .nodes) (o .slots) (o .rule) (o .limit) (sym (c .before .before .before .before .before .before .ranges .ensures) ∙ c .before .before .before .before .enum-told .given .1) .sizes .nodes
 
 enum-told-5 : tie.Need-enum-told-5
-enum-told-5 c = search needs
+enum-told-5 c = c .match3 .keys1
 
 enum-told-6 : tie.Need-enum-told-6
-enum-told-6 c = search needs
+enum-told-6 c = c .match3 .keys2
 
 returns-3 : tie.Need-returns-3
 unfolding postVerdict
@@ -54,23 +54,23 @@ agreement-requires : tie.Need-agreement-requires
 agreement-requires c κs = let a = c .before .before .before .before .before .before .before .before .before .before .before .before .before .before .before .args in let o = a .old in held-tables (ranged (o .nodes) (o .slots) (o .rule) (o .limit) (sym (c .before .before .before .before .before .before .before .before .before .ranges .ensures) ∙ c .before .before .before .before .before .before .before .enum-told .given .1) .sizes .nodes) (long-held (o .nodes) (held o (a .waiting .now) (a .posted .now) (a .sent .now) (a .dropped .now)) (sym (c .before .before .held-short .ensures) ∙ c .enum-told5 .given .1))
 
 enum-told-7 : tie.Need-enum-told-7
-enum-told-7 c = search needs
+enum-told-7 c = c .match4 .keys1
 
 enum-told-8 : tie.Need-enum-told-8
-enum-told-8 c = search needs
+enum-told-8 c = c .match4 .keys2
 
 returns-4 : tie.Need-returns-4
 unfolding postVerdict
 returns-4 c = then-goes (c .before .before .before .before .before .before .before .before .before .before .before .before .ranges .ensures) (c .before .before .before .before .before .before .before .before .before .before .enum-told .given .1) (then-goes (c .before .before .before .before .before .before .before .before .demand-short .ensures) (c .before .before .before .before .before .before .enum-told3 .given .1) (then-goes (c .before .before .before .before .before .held-short .ensures) (c .before .before .before .enum-told5 .given .1) (then-stops _ (c .before .before .agreement .ensures) (c .enum-told8 .given .1))))
 
 count-left-requires : tie.Need-count-left-requires
-count-left-requires c κs = search needs
+count-left-requires c κs = tt
 
 enum-told-9 : tie.Need-enum-told-9
-enum-told-9 c = search needs
+enum-told-9 c = c .match5 .keys1
 
 enum-told-10 : tie.Need-enum-told-10
-enum-told-10 c = search needs
+enum-told-10 c = c .match5 .keys2
 
 returns-5 : tie.Need-returns-5
 unfolding postVerdict
