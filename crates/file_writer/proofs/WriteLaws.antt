@@ -11,11 +11,10 @@ use Rattle.sums.proofs.Searches.{first-before}
 use Rattle.star.specs.declared.refusals.Verdict.the-variants.{Accepted}
 use Rattle.star.specs.Refusals.{noticeOf, Ranges}
 use Rattle.star.specs.Checks.{then}
-use Rattle.star.proofs.RefusalLaws.{in-numbers, passed, then-passed, group-in-numbers, promise-done, ranged, each-within}
+use Rattle.star.proofs.RefusalLaws.{in-numbers, passed, then-passed, group-in-numbers, promise-done, ranged, each-within, ranges-in-numbers}
 use Rattle.pieces.specs.Pieces.{Appended, joinTo}
 use Rattle.pieces.proofs.PieceLaws.{appended-more, appended-front}
 use Rattle.files.specs.declared.output.Output.the-variants as output
-use Rattle.files.proofs.ReadLaws.{ranges-in-numbers}
 use Rattle.file_writer.specs.Bytes.{postsTo, cellsIn, sizesBytes, entryBytes, cellBytes, fileBytes, fileLength}
 use Rattle.file_writer.specs.Writing.{firstUnknown, cellsVerdict, writeVerdict, writeNotice, WriteResult}
 use Rattle.file_writer.proofs.ByteLaws.{posts-few, cells-few, length-sizes, length-entries, length-file}

@@ -13,9 +13,9 @@ use Rattle.star.specs.declared.refusals.Refusal.{Refusal}
 use Rattle.star.specs.declared.refusals.Refusal.the-variants.{BadFile}
 use Rattle.star.specs.declared.refusals.Verdict.{Verdict}
 use Rattle.star.specs.declared.refusals.Verdict.the-variants.{Accepted, Refused}
-use Rattle.star.specs.Refusals.{Notice, noticeOf, check, nodesOut, slotsOut, ruleOut, limitOut, Ranges}
-use Rattle.star.specs.Checks.{sizesVerdict, ruleVerdict, ruleAndLimitVerdict, rangesVerdict, then}
-use Rattle.star.proofs.RefusalLaws.{passes, in-numbers, passed, then-goes, then-passed, group-in-numbers, neither, neither-of, ranges-fit, ranged}
+use Rattle.star.specs.Refusals.{noticeOf, Ranges}
+use Rattle.star.specs.Checks.{then}
+use Rattle.star.proofs.RefusalLaws.{passes, in-numbers, passed, then-goes, then-passed, group-in-numbers, neither, neither-of, ranges-fit, ranged, ranges-in-numbers}
 use Rattle.files.specs.declared.reading.Reading.{Reading}
 use Rattle.files.specs.declared.reading.Reading.the-variants.{Table}
 use Rattle.files.specs.declared.reading.Reading.the-variants as reading
@@ -114,21 +114,6 @@ sound-accepted file s =
     (passes _ (le-ltb (firstBad (nodesOf file) (entriesOf file) file) (entriesOf file) (omega (arith, none))) refl)))
 
 -- ---- what is answered, by names and in numbers
--- a group of groups is made one after the other too
-then-joined : (a b c : Verdict) → then (then a b) c ≡ then a (then b c)
-unfolding then
-then-joined Accepted b c = refl
-then-joined (Refused r) b c = refl
-
--- the checks 1, 2, 3, 7 and the later ones
-pub ranges-in-numbers : (n l rule limit : ℕ) (later : Verdict) {rest : Notice} → noticeOf later ≡ rest →
-    noticeOf (then (rangesVerdict n l rule limit) later) ≡ check (nodesOut n) 1 0 (check (slotsOut l) 2 0 (check (ruleOut rule) 3 0 (check (limitOut limit) 7 0 rest)))
-unfolding rangesVerdict ruleAndLimitVerdict ruleVerdict sizesVerdict then
-ranges-in-numbers n l rule limit later e =
-    ap noticeOf (then-joined (sizesVerdict n l) (ruleAndLimitVerdict rule limit) later)
-    ∙ group-in-numbers _ _ _ _ (group-in-numbers _ _ _ _
-    (ap noticeOf (then-joined (ruleVerdict rule) _ later) ∙ group-in-numbers _ _ _ _ (group-in-numbers _ _ _ _ e)))
-
 read-notice : (file : List ℕ) → noticeOf (readVerdict file) ≡ readNotice file
 unfolding readVerdict readNotice then
 read-notice file = group-in-numbers _ _ _ _ (ranges-in-numbers _ _ _ _ _ (in-numbers _ _ _ refl))

@@ -12,7 +12,7 @@ use Rattle.star.specs.Tables.{Demands, Alike}
 use Rattle.star.specs.Lines.{wholeFrame}
 use Rattle.star.specs.Checks.{demandShortVerdict, demandAboveVerdict}
 use Rattle.star.specs.Refusals.{Sizes}
-use Rattle.star.proofs.RefusalLaws.{passes, then-goes, sizes-fit, demand-fits, demand-within}
+use Rattle.star.proofs.RefusalLaws.{passes, then-goes, sizes-fit, demand-fits, demand-within, promise-same}
 use Rattle.star.proofs.AlikeLaws.{alike-cell, alike-above, both-long, slack-ext}
 use Rattle.slacks.specs.Slacks.{SlacksResult}
 use Rattle.slacks.specs.Theorems.{SlacksTheorems}
@@ -24,10 +24,6 @@ plainly : (n l : ℕ) (d : List ℕ) (cells : ℕ) → Sizes n l → n * n ≤ l
 unfolding slacksVerdict
 plainly n l d cells sizes demand lines within =
     then-goes (sizes-fit n l sizes) refl (then-goes (demand-fits n _ demand) refl (then-goes (passes _ (le-ltb _ _ lines) refl) refl (demand-within n d within)))
-
-same-table : (n l : ℕ) (d : List ℕ) (table table₁ table₂ : List ℤ) (v₁ v₂ : Verdict) → v₁ ≡ v₂ → SlacksResult n l d table table₁ v₁ → SlacksResult n l d table table₂ v₂ → table₁ ≡ table₂
-same-table n l d table table₁ table₂ Accepted v₂ e x y = x .accepted refl ∙ sym (y .accepted (sym e))
-same-table n l d table table₁ table₂ (Refused r) v₂ e x y = x .refused r refl ∙ sym (y .refused r (sym e))
 
 same-length : (n l : ℕ) (d : List ℕ) (table table' : List ℤ) (v : Verdict) → SlacksResult n l d table table' v → length table' ≡ length table
 same-length n l d table table' Accepted x =
@@ -51,9 +47,7 @@ alike-table n l d e table₁ table₁' table₂ table₂' v₁ v₂ x y same ok�
 pub slacks-theorems : SlacksTheorems
 slacks-theorems = record {
   accepts = λ n l d table table' v x sizes demand lines most. x .answer ∙ sym (plainly n l d (length table) sizes demand lines (record { most = most }));
-  unique = λ n l d table table₁ table₂ v₁ v₂ x y.
-      let e : v₁ ≡ v₂ = x .answer ∙ sym (y .answer) in
-      (e, same-table n l d table table₁ table₂ v₁ v₂ e x y);
+  unique = λ n l d table table₁ table₂ v₁ v₂ x y. promise-same v₁ x y;
   lengths = same-length;
   needed = λ n l d e table₁ table₁' table₂ table₂' v₁ v₂ x y same fits₁ fits₂.
       let q : v₁ ≡ v₂ = x .answer ∙ alike-verdict n l d e (length table₁) (length table₂) same fits₁ fits₂ ∙ sym (y .answer) in
