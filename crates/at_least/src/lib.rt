@@ -1,4 +1,6 @@
 // Which cells of a table are at least so much: for each column the rows, as a set of nodes.
+#![tactic(auto)]
+
 ghost use Rattle.std.specs.Prelude.{◌<◌, ◌≤◌, length};
 ghost use Rattle.star.specs.Rooms.{Square};
 ghost use Rattle.at_least.specs.AtLeast.{AtLeast};

@@ -1,5 +1,7 @@
 // The kept table while slots are placed. A cell holds K + 65,536×v: K is what the pair keeps, and v what it still gets, idle slots too.
 // Nowhere else is a cell taken apart.
+#![tactic(auto)]
+
 ghost use Rattle.std.specs.Prelude.{◌≡◌, ◌+◌, ◌<◌, ◌≤◌};
 ghost use Rattle.sums.specs.Tables.{cell};
 ghost use Rattle.star.specs.Rooms.{Square};

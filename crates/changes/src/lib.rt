@@ -1,4 +1,6 @@
 // Reconfigurations, neighbouring slots that differ for some destination, idle being a value like any other: what a setting adds to them.
+#![tactic(auto)]
+
 ghost use Rattle.std.specs.Prelude.{◌≡◌, ◌≤◌, length};
 ghost use Rattle.star.specs.Schedules.{differ};
 ghost use Rattle.arrays.specs.Arrays.{Frame, Slot};

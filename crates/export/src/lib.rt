@@ -1,4 +1,6 @@
 // The entries for programs in C and Rust: numbers and slices in, the documents' number out, its place and what else is reported through a reference.
+#![tactic(auto)]
+
 ghost use Rattle.std.specs.Prelude.{◌≡◌};
 ghost use Rattle.slacks.specs.Slacks.{SlacksResult};
 ghost use Rattle.planner.specs.Plans.{PlanOn};

@@ -1,4 +1,6 @@
 // The largest matrix below bounds whose line sums stay below ceilings, with the marks that prove it.
+#![tactic(auto)]
+
 mod grow;
 
 ghost use Rattle.flow.specs.Certified.{Bounded, Finished, Certified, HeadroomLeft};

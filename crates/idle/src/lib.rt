@@ -1,4 +1,6 @@
 // Filling a kept matrix up with idle slots until every line has one sum, the largest line sum of the matrix.
+#![tactic(auto)]
+
 ghost use Rattle.std.specs.Prelude.{◌*◌, ◌<◌, ◌≤◌, length};
 ghost use Rattle.star.specs.Rooms.{Square};
 ghost use Rattle.idle.specs.Idle.{Small, Loaded, LargestSum, Lacking, CanPad, Fuller, PaddedAt, PaddedAll, CanFill, Padded};

@@ -1,5 +1,7 @@
 // The inner layers for the comparisons and the benchmark, which call them from Rust; no part of the product. Each asks and promises what the
 // function does that it calls.
+#![tactic(auto)]
+
 ghost use Rattle.std.specs.Prelude.{◌≡◌, ◌*◌};
 ghost use Rattle.sums.specs.Tables.{written};
 ghost use Rattle.slots.specs.Places.{CanPlace, Places};

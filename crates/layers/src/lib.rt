@@ -1,5 +1,7 @@
 // The search, in layers: rows with headroom, the columns that one of them can give more, the rows from which one of these columns takes, and so on to a
 // column with headroom.
+#![tactic(auto)]
+
 ghost use Rattle.std.specs.Prelude.{◌+◌, ◌*◌, ◌<◌, ◌≤◌, length, ◌≡◌};
 ghost use Rattle.nodes.specs.Sets.{member, Within};
 ghost use Rattle.layers.specs.Layers.{Leading, LayerLists, SearchEnded, Marked};

@@ -1,4 +1,6 @@
 // The matrix program: reads standard input to its end, in whatever pieces it comes, and writes the answer.
+#![tactic(auto)]
+
 use libc::{STDIN_FILENO, STDOUT_FILENO};
 use matrix_text::answers::{LONGEST_TEXT, answer};
 

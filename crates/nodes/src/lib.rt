@@ -1,5 +1,7 @@
 // A set of up to 64 nodes as one number: node i is in it where binary digit i is 1. The only bit arithmetic of the planner;
 // every contract speaks of members alone.
+#![tactic(auto)]
+
 ghost use Rattle.std.specs.Prelude.{◌<◌};
 ghost use Rattle.nodes.specs.Sets.{None, All, With, WithWhere, Without, Both, Minus, First, Joined};
 

@@ -1,4 +1,6 @@
 // A list of decimal numbers, read byte by byte.
+#![tactic(auto)]
+
 ghost use Rattle.std.specs.Prelude.{◌≡◌, true, ◌-◌, ◌≤◌, ◌<◌};
 ghost use Rattle.number_list.specs.Input.{is_digit, parts};
 ghost use Rattle.number_list.specs.Reads.{Ended, Reads};

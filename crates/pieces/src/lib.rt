@@ -1,5 +1,7 @@
 // Bytes written piece by piece, and the text that the programs share. Each function that puts a piece gives the place after it. A piece is written from
 // `at` on, and must fit; the two whole texts, of bad input and of a refusal, are written from the front, and ask for room for the longest.
+#![tactic(auto)]
+
 ghost use Rattle.std.specs.Prelude.{[], ◌∷◌, ◌+◌, ◌<◌, ◌≤◌, length};
 ghost use Rattle.pieces.specs.Pieces.{Appended};
 ghost use Rattle.pieces.specs.Text.{decimal, named, marked, bad_input, refusal_text, line_room};

@@ -1,4 +1,6 @@
 // Playing a scenario file: a fresh start, and then each entry in turn. No call of an accepted file is refused, so that there is no path for it.
+#![tactic(auto)]
+
 ghost use Rattle.std.specs.Prelude.{◌≡◌, ℕ, ◌+◌, ◌*◌, ◌≤◌, ◌<◌, length};
 ghost use Rattle.sums.specs.Tables.{tab, written};
 ghost use Rattle.star.specs.declared.refusals.Verdict.TheVariants.{Accepted};

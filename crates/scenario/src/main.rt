@@ -1,4 +1,6 @@
 // The scenario program: reads standard input to its end, in whatever pieces it comes, and writes the answer.
+#![tactic(auto)]
+
 use libc::{STDIN_FILENO, STDOUT_FILENO};
 use scenario_text::answers::{LONGEST_TEXT, answer};
 

@@ -1,3 +1,5 @@
 // The scenario program's work: from the bytes that it reads to the bytes that it writes.
+#![tactic(auto)]
+
 pub mod answers;
 mod lines;

@@ -1,4 +1,6 @@
 // The entry `slacks`: what is left of the frame on each line.
+#![tactic(auto)]
+
 ghost use Rattle.std.specs.Prelude.{◌≡◌, ◌*◌, ◌≤◌, length};
 ghost use Rattle.sums.specs.Tables.{tab, written};
 ghost use Rattle.star.specs.Tables.{Demands};

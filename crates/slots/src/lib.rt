@@ -5,6 +5,8 @@
 //
 // Working memory: the lent kept table, which is at the end as it was, and lists on the stack. Those are 704 bytes while slots are placed, 512 more
 // while the sets of a level are made or 64 more while nodes are paired, and before that 512 while lines are padded.
+#![tactic(auto)]
+
 pub mod placing;
 mod rounds;
 mod writing;

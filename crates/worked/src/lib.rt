@@ -1,1 +1,3 @@
 // The fourteen worked lines of document 01 that are proved of the definitions, as one statement.
+#![tactic(auto)]
+
