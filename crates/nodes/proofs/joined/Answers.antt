@@ -1,10 +1,6 @@
 -- `nodes::joined` meets its contract: an or with the high half shifted past the low one, digit by digit. Assumes nothing.
 use Rattle.nodes.proofs.Members.{joined_law}
-use Rattle.nodes.proofs.joined.Statement.{statement}
-use Rattle.nodes.proofs.joined.Tie as tie
+use Rattle.nodes.proofs.joined.Goals as goal
 
-returns : tie.Need-returns
+pub returns : goal.returns
 returns c = joined_law _ _ c.ranges.low.fits c.ranges.high.fits
-
-pub joined-spec : {M : Type 1} → statement M
-joined-spec = tie.close (tie.spec returns)
