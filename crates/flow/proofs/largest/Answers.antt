@@ -48,4 +48,4 @@ returns c = let said = c.largest_on in
     let headrooms = said.auto.headroom ∙ length-take-le _ args.headroom.now asked.ceilings in
     let cells = said.auto.a ∙ length-take-le _ args.a.now asked.cells.cells in
     let lines = said.auto.marks ∙ length-take-le _ args.marks.now asked.lines in
-    fronts _ _ _ said.new.1.1.1.0 said.new.1.1.0 said.new.1.1.1.1.0 _ _ _ cells headrooms lines said.ensures _ _ (drop_at said.new.1.1.1.0 _ _ cells) (drop_at said.new.1.1.0 _ _ headrooms) (drop_at said.new.1.1.1.1.0 _ _ lines)
+    fronts _ _ _ said.new.a said.new.headroom said.new.marks _ _ _ cells headrooms lines said.ensures _ _ (drop_at said.new.a _ _ cells) (drop_at said.new.headroom _ _ headrooms) (drop_at said.new.marks _ _ lines)

@@ -15,6 +15,12 @@ use Rattle.slacks.proofs.slacks.Goals as goal
 pub slacks_verdict-v-requires : goal.slacks_verdict-v-requires
 slacks_verdict-v-requires c = search rules
 
+pub enum_told-1 : goal.enum_told-1
+enum_told-1 c = search rules
+
+pub enum_told-in_default : goal.enum_told-in_default
+enum_told-in_default c = search rules
+
 pub returns-in_default : goal.returns-in_default
 returns-in_default c = promise_refused c.slacks_verdict-v.ensures (slacks_notice_lem _ _ _ _) _ c.in_default.is
 
@@ -24,10 +30,13 @@ overflow_mul-lines c = search rules
 pub slice_bounds-cap-end : goal.slice_bounds-cap-end
 slice_bounds-cap-end c = let g = slacks_fits _ _ _ _ (sym c.slacks_verdict-v.ensures ∙ c.in-Accepted.is) in omega (arith, g.sizes.nodes)
 
+pub slice_bounds-write_slacks-end : goal.slice_bounds-write_slacks-end
+slice_bounds-write_slacks-end c = let g = slacks_fits _ _ _ _ (sym c.slacks_verdict-v.ensures ∙ c.in-Accepted.is) in sym (length-take-le _ _ (omega (arith, length-replicate 128 c.args.slots, g.sizes.nodes)))
+
 pub write_slacks-requires : goal.write_slacks-requires
 write_slacks-requires c = let a = c.args in
     let g = slacks_fits _ _ _ _ (sym c.slacks_verdict-v.ensures ∙ c.in-Accepted.is) in
-    ((g.demand, g.within), (rw (whole_frame_lem a.nodes a.slots g.sizes.nodes) (whole_frame_fits _ _ g.sizes.slots), g.lines))
+    record { square = (g.demand, g.within); capacities = (rw (whole_frame_lem a.nodes a.slots g.sizes.nodes) (whole_frame_fits _ _ g.sizes.slots), g.lines) }
 
 pub shape_of-table : goal.shape_of-table
 shape_of-table c = search rules

@@ -39,10 +39,10 @@ bounds-sums-line c = omega arith
 
 pub slack-requires : goal.slack-requires
 slack-requires c = let args = c.args in
-    let pre = c.requires.? in
+    let pre = c.requires in
     let line = c.loop-line.line in
     let inside : line < 2 * args.n = omega arith in
-    (pre.1.0.most line inside, omega (arith, c.line_sums.ensures.lines line inside, line_most args.n args.demand.now line pre.0.0.nodes pre.0.1 inside))
+    (pre.capacities.0.most line inside, omega (arith, c.line_sums.ensures.lines line inside, line_most args.n args.demand.now line pre.square.0.nodes pre.square.1 inside))
 
 pub offset_bounds-table-line : goal.offset_bounds-table-line
 offset_bounds-table-line c = omega arith
@@ -61,7 +61,7 @@ unfolding slack
 loop-line-preserved c = let args = c.args in
     let loop = c.loop-line in
     let value : to_z w32 (of_z w32 c.slack.result) ≡ slack args.n args.cap.now args.demand.now loop.line
-    = to_z-of_z w32 _ (record { sfits = c.slack.type-inv }) ∙ c.slack.ensures ∙ ap (sub_ℕ _) (c.line_sums.ensures.lines _ (omega arith)) in
+    = to_z-of_z w32 _ (record { sfits = c.slack.type_inv }) ∙ c.slack.ensures ∙ ap (sub_ℕ _) (c.line_sums.ensures.lines _ (omega arith)) in
     (omega arith, refl, simp length-set loop.invariant.2, ap₂ (λ o v. set o loop.line v) loop.invariant.3 value ∙ tab_more _ loop.line args.table.now (pos 0) (omega arith))
 
 pub shape_of-table : goal.shape_of-table
