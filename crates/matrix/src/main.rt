@@ -1,16 +1,28 @@
 // The matrix program: reads standard input to its end, in whatever pieces it comes, and writes the answer.
 #![tactic(auto)]
 
-use input::read_full;
+ghost use Rattle.std.specs.Prelude.{OnOk};
+ghost use Rattle.streams.specs.Streams.{AnswersInput};
+ghost use Rattle.matrix_text.specs.Outcomes.{outcome, Prints};
+
 use matrix_text::answers::{LONGEST_TEXT, answer};
 use std::io;
-use std::io::Write;
+use std::io::{Read, Write};
+use streams::read_full;
 
-fn main(rt: HostRuntime) -> io::Result<()> {
+// Answers what the reader has left.
+fn answer_input<R: Read, W: Write>(reader: &mut R, writer: &mut W) -> io::Result<()>
+    ensures { OnOk result (AnswersInput 65537 (λ input. Prints (outcome input))
+        (R.remaining reader.old) (R.remaining reader.new) (W.contents writer.old) (W.contents writer.new)) }
+{
     // one byte more than an input may have, so that a longer one is seen
     let mut input = [0u8; 65537];
-    let got = read_full(&mut rt.stdin(), &mut input)?;
+    let got = read_full(reader, &mut input)?;
     let mut out = [0u8; LONGEST_TEXT];
     let length = answer(&input[..got], &mut out);
-    rt.stdout().write_all(&out[..length])
+    writer.write_all(&out[..length])
+}
+
+fn main(rt: HostRuntime) -> io::Result<()> {
+    answer_input(&mut rt.stdin(), &mut rt.stdout())
 }
