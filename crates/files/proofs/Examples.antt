@@ -10,7 +10,7 @@ use Rattle.sums.specs.Tables.{tab}
 use Rattle.star.specs.declared.refusals.Refusal.TheVariants.{BadFile, TableShort}
 use Rattle.star.specs.Refusals.{verdict_number, verdict_place, notice, accepted, check}
 use Rattle.star.specs.Checks.{sizes_verdict, rule_verdict, rule_and_limit_verdict, ranges_verdict, refuse, then}
-use Rattle.files.specs.declared.reading.Reading.TheVariants.{Table, Refused}
+use Rattle.files.specs.declared.reading.Reading.TheVariants.{Table}
 use Rattle.files.specs.declared.output.Output.TheVariants as output
 use Rattle.files.specs.Format.{two, four, kind_of, place_of, matrix_at, post, frame, entry_of, scenario_of}
 use Rattle.files.specs.Output.{output_verdict, output_length}

@@ -1,5 +1,4 @@
 -- `read` finds the list that the input is, or that it is none. The loop's invariant is `Reading`: the numbers done, the word at hand and what is left make the list; each byte keeps it, or spoils the list. The measure is what is left of the input. Assumes nothing.
-use Prim.Native.Nat.{◌-◌}
 use native.Mathlib.Omega.{arith}
 use mathlib.Core.Path.{refl, sym, ◌∙◌}
 use Rattle.number_list.proofs.InputLaws.{reading_start, reading_fits, reading_digit, reading_long, reading_junk, reading_part, reading_end}

@@ -1,5 +1,4 @@
 -- `play_entries` plays an entry each turn: the entries passed are played. Assumes nothing.
-use Prim.Native.Nat.{◌-◌}
 use native.Mathlib.Omega.{arith}
 use mathlib.Core.Path.{◌≡◌, refl, ◌∙◌}
 use Rattle.play.proofs.play_entries.Goals as goal

@@ -1,5 +1,5 @@
 -- `count_posts` meets its contract: the posts among the entries passed are counted. Assumes nothing.
-use Prim.Native.Nat.{◌-◌, ◌+◌}
+use Prim.Native.Nat.{◌+◌}
 use native.Mathlib.Omega.{arith}
 use mathlib.Core.Path.{◌≡◌, sym, ◌∙◌, ap}
 use lib.ListN.{length}

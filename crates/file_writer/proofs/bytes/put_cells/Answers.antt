@@ -1,5 +1,4 @@
 -- `put_cells` appends a cell each turn. Assumes nothing.
-use Prim.Native.Nat.{◌-◌}
 use native.Mathlib.Omega.{arith}
 use mathlib.Core.Path.{◌≡◌, refl, ◌∙◌}
 use Rattle.pieces.proofs.PieceLaws.{appended_none, join_none}

@@ -1,5 +1,5 @@
 -- `first_wide` meets its contract: no matrix passed has a cell above 65,535. Assumes nothing.
-use Prim.Native.Nat.{◌-◌, ◌*◌}
+use Prim.Native.Nat.{◌*◌}
 use native.Mathlib.Omega.{arith}
 use mathlib.Core.Path.{◌≡◌, ap}
 use Rattle.sums.proofs.Tables.{mul_small}

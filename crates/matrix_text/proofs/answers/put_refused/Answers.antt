@@ -1,7 +1,6 @@
 -- `put_refused` prints a refusal, or `bad input` where the count of demands comes first and is wrong: by the cases of its tests. Assumes nothing.
 use native.Mathlib.Omega.{arith}
 use mathlib.Core.Path.{◌≡◌, ◌∙◌, ap₂, sym}
-use borrow.Author.Tests.{not-false}
 use borrow.Author.Rules.{rules}
 use Rattle.star.specs.Refusals.{refusal_number, refusal_place}
 use Rattle.pieces.specs.Text.{refusal_text}

@@ -1,5 +1,4 @@
 -- `put_row` appends a line, destination by destination. The loop's invariant: the pieces of the destinations passed are appended. The measure is the number of those left. Assumes nothing.
-use Prim.Native.Nat.{◌-◌}
 use native.Mathlib.Omega.{arith}
 use mathlib.Core.Path.{◌≡◌, ◌∙◌, refl}
 use Rattle.pieces.proofs.PieceLaws.{appended_more, appended_none, join_none, join_more, join_part}

@@ -1,5 +1,5 @@
 -- `put_lines` appends the text of a pair each turn; all fit. Assumes nothing.
-use Prim.Native.Nat.{◌-◌, ◌*◌}
+use Prim.Native.Nat.{◌*◌}
 use native.Mathlib.Omega.{arith}
 use mathlib.Core.Path.{refl, ◌∙◌}
 use Rattle.sums.proofs.Tables.{mul_small}
