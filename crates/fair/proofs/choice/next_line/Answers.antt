@@ -2,10 +2,10 @@
 use mathlib.Core.Path.{◌≡◌}
 use borrow.Author.Rules.{rules}
 use Rattle.fair.proofs.Comparisons.{next_start, next_ahead, next_behind}
-use mathlib.Core.Logic.{⊎_elim}
 use native.Mathlib.Omega.{arith}
 use Prim.Native.Nat.{◌*◌, ◌-◌}
 use Rattle.fair.proofs.choice.next_line.Goals as goal
+use Rattle.fair.proofs.choice.next_line.Goals.{then-ahead, else-ahead}
 
 pub overflow_mul-found : goal.overflow_mul-found
 overflow_mul-found c = omega arith
@@ -26,7 +26,7 @@ pub loop-line-smaller : goal.loop-line-smaller
 loop-line-smaller c = omega arith
 
 pub loop-line-preserved : goal.loop-line-preserved
-loop-line-preserved c = (omega arith, ⊎_elim (λ w. rw w.1 (next_ahead _ _ _ _ c.loop-line.invariant.1 (rw w.0.taken at c.ahead.ensures))) (λ w. rw w.1 (next_behind _ _ _ _ c.loop-line.invariant.1 (rw w.0.left at c.ahead.ensures))) c.if-ahead.branch)
+loop-line-preserved c = (omega arith, elim c.if-ahead.branch [ then-ahead w ↦ rw w.found-is (next_ahead _ _ _ _ c.loop-line.invariant.1 (rw w.if-ahead.true at c.ahead.ensures)) | else-ahead w ↦ rw w.found-is (next_behind _ _ _ _ c.loop-line.invariant.1 (rw w.if-ahead.false at c.ahead.ensures)) ])
 
 pub returns : goal.returns
 returns c = let done : c.loop-line.line ≡ 2 * c.args.n = omega arith in rw done at c.loop-line.invariant.1
