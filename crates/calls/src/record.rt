@@ -1,6 +1,6 @@
 // The record of a run: N, L, B, the rule, and the counts of accepted posts and frames.
 #[repr(C)]
-#[derive(Drop)]
+#[derive(Clone, Copy)]
 pub struct Run {
     pub nodes: u32,
     pub slots: u32,

@@ -1,7 +1,6 @@
 -- `walks::walk::drain` meets its contract: something has gone, or the layers are those of the search. The rows' headroom and the nodes of the layers fall. Assumes nothing.
 use native.Mathlib.Omega.{arith}
 use mathlib.Core.Path.{refl, ◌∙◌}
-use borrow.Author.Tests.{not-true, not-false}
 use Rattle.walks.proofs.WalkLaws.{walk_climb, walked_none, walk_passable, walk_send, walk_spend, walked_sent, drain_start, drain_walk, drain_step, drain_end, lists_again}
 use Rattle.walks.proofs.walk.drain.Goals as goal
 
@@ -49,7 +48,7 @@ loop-n-smaller-then-not-climb c = let inv = c.loop-n.invariant.8 in
     let found = rw c.set_at.ensures at c.first-e.ensures in
     let can = drain_walk inv found (omega (arith, c.requires.headrooms, c.loop-n.invariant.1)) c.if-e-n.false in
     let said = c.climb in
-    let walked = walked_none can said.ensures (not-true _ c.if-not-climb.true) in
+    let walked = walked_none can said.ensures c.if-not-climb.true in
     walked.falls
 
 pub loop-n-preserved-then-not-climb : goal.loop-n-preserved-then-not-climb
@@ -57,23 +56,23 @@ loop-n-preserved-then-not-climb c = let inv = c.loop-n.invariant.8 in
     let found = rw c.set_at.ensures at c.first-e.ensures in
     let can = drain_walk inv found (omega (arith, c.requires.headrooms, c.loop-n.invariant.1)) c.if-e-n.false in
     let said = c.climb in
-    let walked = walked_none can said.ensures (not-true _ c.if-not-climb.true) in
+    let walked = walked_none can said.ensures c.if-not-climb.true in
     let lens = c.loop-n.invariant in
-    (lens.0, lens.1, lens.2, lens.3, said.auto.1.1.1.0 ∙ lens.4, said.auto.1.1.1.1.0 ∙ lens.5, said.auto.1.1.1.1.1.0 ∙ lens.6, said.auto.1.1.1.1.1.1.0 ∙ lens.7, drain_step inv found walked (lists_again inv.lists said.auto.1.1.1.0 said.auto.1.1.1.1.0 said.auto.1.1.1.1.1.0 said.auto.1.1.1.1.1.1.0))
+    (lens.0, lens.1, lens.2, lens.3, said.auto.rows ∙ lens.4, said.auto.columns ∙ lens.5, said.auto.at ∙ lens.6, said.auto.to ∙ lens.7, drain_step inv found walked (lists_again inv.lists said.auto.rows said.auto.columns said.auto.at said.auto.to))
 
 pub bottleneck-x-requires : goal.bottleneck-x-requires
 bottleneck-x-requires c = let inv = c.loop-n.invariant.8 in
     let found = rw c.set_at.ensures at c.first-e.ensures in
     let can = drain_walk inv found (omega (arith, c.requires.headrooms, c.loop-n.invariant.1)) c.if-e-n.false in
     let said = c.climb in
-    walk_passable can said.ensures (not-false _ c.if-not-climb.false) said.auto.1.1.1.1.1.0 said.auto.1.1.1.1.1.1.0
+    walk_passable can said.ensures c.if-not-climb.false said.auto.at said.auto.to
 
 pub send-requires : goal.send-requires
 send-requires c = let inv = c.loop-n.invariant.8 in
     let found = rw c.set_at.ensures at c.first-e.ensures in
     let can = drain_walk inv found (omega (arith, c.requires.headrooms, c.loop-n.invariant.1)) c.if-e-n.false in
     let said = c.climb in
-    walk_send can said.ensures (not-false _ c.if-not-climb.false) said.auto.1.1.1.1.1.0 said.auto.1.1.1.1.1.1.0 c.bottleneck-x.ensures
+    walk_send can said.ensures c.if-not-climb.false said.auto.at said.auto.to c.bottleneck-x.ensures
 
 pub byte-requires : goal.byte-requires
 byte-requires c = omega (arith, c.climb.auto.at, c.loop-n.invariant.8.lists.ats)
@@ -83,7 +82,7 @@ spend-requires c = let inv = c.loop-n.invariant.8 in
     let found = rw c.set_at.ensures at c.first-e.ensures in
     let can = drain_walk inv found (omega (arith, c.requires.headrooms, c.loop-n.invariant.1)) c.if-e-n.false in
     let said = c.climb in
-    rw c.byte.ensures.0 (walk_spend can said.ensures (not-false _ c.if-not-climb.false) said.auto.1.1.1.1.1.0 said.auto.1.1.1.1.1.1.0 c.bottleneck-x.ensures said.auto.1.1.1.0 said.auto.1.1.1.1.0)
+    rw c.byte.ensures.0 (walk_spend can said.ensures c.if-not-climb.false said.auto.at said.auto.to c.bottleneck-x.ensures said.auto.rows said.auto.columns)
 
 pub loop-n-smaller : goal.loop-n-smaller
 loop-n-smaller c = let inv = c.loop-n.invariant.8 in
@@ -91,9 +90,9 @@ loop-n-smaller c = let inv = c.loop-n.invariant.8 in
     let can = drain_walk inv found (omega (arith, c.requires.headrooms, c.loop-n.invariant.1)) c.if-e-n.false in
     let said = c.climb in
     let goes = c.bottleneck-x.ensures in
-    let spends = walk_spend can said.ensures (not-false _ c.if-not-climb.false) said.auto.1.1.1.1.1.0 said.auto.1.1.1.1.1.1.0 goes said.auto.1.1.1.0 said.auto.1.1.1.1.0 in
+    let spends = walk_spend can said.ensures c.if-not-climb.false said.auto.at said.auto.to goes said.auto.rows said.auto.columns in
     let spent = rw c.byte.ensures.0 at c.spend.ensures in
-    let walked = walked_sent can said.ensures (not-false _ c.if-not-climb.false) said.auto.1.1.1.1.1.0 said.auto.1.1.1.1.1.1.0 goes spends c.send.ensures spent in
+    let walked = walked_sent can said.ensures c.if-not-climb.false said.auto.at said.auto.to goes spends c.send.ensures spent in
     walked.falls
 
 pub loop-n-preserved : goal.loop-n-preserved
@@ -102,10 +101,10 @@ loop-n-preserved c = let inv = c.loop-n.invariant.8 in
     let can = drain_walk inv found (omega (arith, c.requires.headrooms, c.loop-n.invariant.1)) c.if-e-n.false in
     let said = c.climb in
     let goes = c.bottleneck-x.ensures in
-    let spends = walk_spend can said.ensures (not-false _ c.if-not-climb.false) said.auto.1.1.1.1.1.0 said.auto.1.1.1.1.1.1.0 goes said.auto.1.1.1.0 said.auto.1.1.1.1.0 in
+    let spends = walk_spend can said.ensures c.if-not-climb.false said.auto.at said.auto.to goes said.auto.rows said.auto.columns in
     let spent = rw c.byte.ensures.0 at c.spend.ensures in
-    let walked = walked_sent can said.ensures (not-false _ c.if-not-climb.false) said.auto.1.1.1.1.1.0 said.auto.1.1.1.1.1.1.0 goes spends c.send.ensures spent in
+    let walked = walked_sent can said.ensures c.if-not-climb.false said.auto.at said.auto.to goes spends c.send.ensures spent in
     let lens = c.loop-n.invariant in
     let send = c.send.auto in
     let spend = c.spend.auto in
-    (send.1.1.0 ∙ lens.0, spend.1.0 ∙ lens.1, send.1.1.1.0 ∙ lens.2, send.1.1.1.1.0 ∙ lens.3, spend.1.1.0 ∙ said.auto.1.1.1.0 ∙ lens.4, spend.1.1.1.0 ∙ said.auto.1.1.1.1.0 ∙ lens.5, said.auto.1.1.1.1.1.0 ∙ lens.6, said.auto.1.1.1.1.1.1.0 ∙ lens.7, drain_step inv found walked (lists_again inv.lists (spend.1.1.0 ∙ said.auto.1.1.1.0) (spend.1.1.1.0 ∙ said.auto.1.1.1.1.0) said.auto.1.1.1.1.1.0 said.auto.1.1.1.1.1.1.0))
+    (send.a ∙ lens.0, spend.headroom ∙ lens.1, send.offers ∙ lens.2, send.takers ∙ lens.3, spend.rows ∙ said.auto.rows ∙ lens.4, spend.columns ∙ said.auto.columns ∙ lens.5, said.auto.at ∙ lens.6, said.auto.to ∙ lens.7, drain_step inv found walked (lists_again inv.lists (spend.rows ∙ said.auto.rows) (spend.columns ∙ said.auto.columns) said.auto.at said.auto.to))
