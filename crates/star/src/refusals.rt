@@ -3,7 +3,7 @@ ghost use Rattle.std.specs.Prelude.{◌≡◌};
 ghost use Rattle.star.specs.Refusals.{verdict_number, verdict_place};
 
 // The refusals of documents 01 and 02, in the order of their numbers.
-#[derive(Drop)]
+#[derive(Clone, Copy)]
 pub enum Refusal {
     Nodes,
     Slots,
@@ -18,7 +18,7 @@ pub enum Refusal {
 }
 
 // What a call that reports no totals answers.
-#[derive(Drop)]
+#[derive(Clone, Copy)]
 pub enum Verdict {
     Accepted,
     Refused { refusal: Refusal },
