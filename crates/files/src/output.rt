@@ -5,7 +5,7 @@ ghost use Rattle.files.specs.Output.{output_verdict, output_length};
 use star::refusals::{Refusal, Verdict};
 
 // How many bytes were written, or the refusal.
-#[derive(Drop)]
+#[derive(Clone, Copy)]
 pub enum Output {
     Bytes { length: u32 },
     Refused { refusal: Refusal },

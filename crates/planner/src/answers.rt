@@ -5,7 +5,7 @@ ghost use Rattle.planner.specs.Plans.{verdict_of, report_of};
 use star::refusals::{Refusal, Verdict};
 
 // The figures of a plan: what all pairs keep, what is refused of the demand, and the reconfigurations.
-#[derive(Drop)]
+#[derive(Clone, Copy)]
 pub struct Report {
     pub kept: u32,
     pub refused: u32,
@@ -13,7 +13,7 @@ pub struct Report {
 }
 
 // The report of an accepted call, or its refusal.
-#[derive(Drop)]
+#[derive(Clone, Copy)]
 pub enum Answer {
     Planned { report: Report },
     Refused { refusal: Refusal },
