@@ -43,8 +43,8 @@
  * An entry keeps nothing between calls, takes no memory but its stack, and may be called from
  * several threads at once on tables of their own.
  *
- * To link: target/staticlib/libexport.a, which `rt staticlib export` makes, for x86-64 Linux. It
- * calls memcpy and memset, and needs nothing else.
+ * To link: crates/export/out/libexport.a, which `rt lib` in crates/export makes, for x86-64 Linux.
+ * It calls memcpy and memset, and needs nothing else.
  *
  * The stack that a call needs, measured of the x86-64 code at N 64 and L 1024 over many families of
  * demands, rounded up, in bytes:

@@ -1,6 +1,6 @@
 -- From the start to the end: a matrix of zeros whose headroom is the ceilings is feasible, and stays so while spans are kept; where it cannot grow the marks are
 -- closed. Only the cells needed matter. Assumes nothing.
-use Prim.Native.Nat.{ℕ, ◌+◌, ◌-◌, ◌*◌, ◌<◌}
+use Prim.Native.Nat.{ℕ, ◌+◌, ◌*◌, ◌<◌}
 use native.Mathlib.Omega.{arith}
 use mathlib.Core.Path.{◌≡◌, sym, ◌∙◌, ap}
 use mathlib.Core.Bool.{Bool, true, false}

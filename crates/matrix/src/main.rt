@@ -1,14 +1,28 @@
 // The matrix program: reads standard input to its end, in whatever pieces it comes, and writes the answer.
 #![tactic(auto)]
 
-use libc::{STDIN_FILENO, STDOUT_FILENO};
-use matrix_text::answers::{LONGEST_TEXT, answer};
+ghost use Rattle.std.specs.Prelude.{OnOk};
+ghost use Rattle.streams.specs.Streams.{AnswersInput};
+ghost use Rattle.matrix_text.specs.Outcomes.{outcome, Prints};
 
-fn main() {
+use matrix_text::answers::{LONGEST_TEXT, answer};
+use std::io;
+use std::io::{Read, Write};
+use streams::read_full;
+
+// Answers what the reader has left.
+fn answer_input<R: Read, W: Write>(reader: &mut R, writer: &mut W) -> io::Result<()>
+    ensures { OnOk result (AnswersInput 65537 (λ input. Prints (outcome input))
+        (R.remaining reader.old) (R.remaining reader.new) (W.contents writer.old) (W.contents writer.new)) }
+{
     // one byte more than an input may have, so that a longer one is seen
     let mut input = [0u8; 65537];
-    let got = io::read_full(STDIN_FILENO, &mut input);
+    let got = read_full(reader, &mut input)?;
     let mut out = [0u8; LONGEST_TEXT];
     let length = answer(&input[..got], &mut out);
-    io::write_all(STDOUT_FILENO, &out[..length]);
+    writer.write_all(&out[..length])
+}
+
+fn main(rt: HostRuntime) -> io::Result<()> {
+    answer_input(&mut rt.stdin(), &mut rt.stdout())
 }

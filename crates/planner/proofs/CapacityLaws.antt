@@ -1,13 +1,13 @@
 -- Both rules read the capacities only line by line: capacities that agree on each of the 2N lines are kept alike. Assumes nothing.
-use Prim.Native.Nat.{ℕ, zero, suc, ◌+◌, ◌-◌, ◌*◌, ◌/◌, ◌%◌, ◌≤◌, ◌<◌}
+use Prim.Native.Nat.{ℕ, zero, suc, ◌+◌, ◌-◌, ◌*◌, ◌≤◌, ◌<◌}
 use native.Mathlib.Omega.{arith}
 use mathlib.Core.Path.{◌≡◌, refl, ◌∙◌, ap, ap₂}
-use mathlib.Core.Bool.{Bool, true, false, cond, ◌||◌}
+use mathlib.Core.Bool.{cond, ◌||◌}
 use mathlib.Core.List.{List}
 use lib.ListN.{get_or, set}
 use lib.Dec.{ltb, leb}
 use borrow.Author.Tests.{le-ltb, le-leb}
-use Rattle.sums.specs.Tables.{cell, square}
+use Rattle.sums.specs.Tables.{square}
 use Rattle.sums.proofs.Cases.{by_lt}
 use Rattle.star.specs.Lines.{line_sum}
 use Rattle.fair.specs.Fair.{Cutting, modified_sum, unmodified_sum, numerator, exceeds, smaller, taken, cut_cell, cut_line, step, steps, uncut, fair_kept}

@@ -63,8 +63,10 @@ impl Program {
     }
 
     fn built_here(&self) -> PathBuf {
-        let program = repository().join("target/bin").join(self.name);
-        assert!(program.is_file(), "build it with `rt check {}`", self.name);
+        let folder = repository().join("crates").join(self.name);
+        let program = folder.join("out").join(self.name);
+        let folder = folder.display();
+        assert!(program.is_file(), "build it with `rt run` in {folder}");
         program
     }
 }

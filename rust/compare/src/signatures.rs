@@ -228,11 +228,11 @@ mod tests {
 
     const EXPORTED: &str = r#"
         // No other pub extern "C" fn than these.
-        #[no_mangle]
+        #[unsafe(no_mangle)]
         pub extern "C" fn first(
             run: &mut Run, rule: u32, read: &[u32], written: &mut [i32], place: &mut u32,
         ) -> u32
-            ensures { λ r. ⌜ r ≡ numberOf (now (place .exit)) ⌝ }
+            ensures { result ≡ number_of place.new }
         {
             second(read, written)
         }

@@ -1,5 +1,4 @@
 -- `at_least::add_row` meets its contract: the row has joined the sets passed where its cell is at least so much, and nobody else has. Assumes nothing.
-use Prim.Native.Nat.{◌-◌}
 use native.Mathlib.Omega.{arith}
 use borrow.Author.Tests.{leb-true, leb-false}
 use Rattle.at_least.proofs.HalfLaws.{row_start, row_step, row_end}

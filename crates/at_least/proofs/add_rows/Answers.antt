@@ -1,5 +1,4 @@
 -- `at_least::add_rows` meets its contract: the half is right for the rows passed. Assumes nothing.
-use Prim.Native.Nat.{◌-◌}
 use native.Mathlib.Omega.{arith}
 use Rattle.at_least.proofs.HalfLaws.{add_start, add_step, add_end}
 use Rattle.at_least.proofs.add_rows.Goals as goal

@@ -1,5 +1,4 @@
 -- `at_least::join` meets its contract: the sets passed are those of the two halves. Assumes nothing.
-use Prim.Native.Nat.{◌-◌}
 use native.Mathlib.Omega.{arith}
 use borrow.Author.Rules.{rules}
 use Rattle.at_least.proofs.HalfLaws.{join_start, join_step, join_end}

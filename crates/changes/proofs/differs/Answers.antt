@@ -1,5 +1,4 @@
 -- `changes::differs` meets its contract: the destinations passed hear the same in both slots. Assumes nothing.
-use Prim.Native.Nat.{◌-◌}
 use native.Mathlib.Omega.{arith}
 use mathlib.Core.Path.{◌∙◌, sym}
 use Rattle.changes.proofs.ChangeLaws.{same_more, differ_at, differ_none}

@@ -1,7 +1,6 @@
 -- `flow::largest_from` meets its contract: the sets are right for a matrix of zeros. Assumes nothing.
 use native.Mathlib.Omega.{arith}
 use mathlib.Core.Path.{◌∙◌}
-use borrow.Author.Rules.{rules}
 use Rattle.flow.proofs.Grows.{empty_sides, grew_grown}
 use Rattle.flow.proofs.largest_from.Goals as goal
 

@@ -1,5 +1,4 @@
 -- `idle::lacks` meets its contract: the lines passed hold what they lack, the others their sums. Assumes nothing.
-use Prim.Native.Nat.{◌-◌}
 use native.Mathlib.Omega.{arith}
 use mathlib.Core.Path.{refl}
 use Rattle.idle.proofs.Pads.{lack_step}

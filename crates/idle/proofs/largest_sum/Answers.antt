@@ -1,5 +1,4 @@
 -- `idle::largest_sum` meets its contract: no sum passed is above the number, and the number is one of them or 0. Assumes nothing.
-use Prim.Native.Nat.{◌-◌}
 use native.Mathlib.Omega.{arith}
 use borrow.Author.Rules.{rules}
 use Rattle.idle.proofs.Pads.{top_step}

@@ -1,5 +1,4 @@
 -- `idle::load` meets its contract: the cells before p are loaded, and the others are as before. Assumes nothing.
-use Prim.Native.Nat.{◌-◌}
 use native.Mathlib.Omega.{arith}
 use mathlib.Core.Path.{refl}
 use Rattle.sums.proofs.Tables.{mul_small}

@@ -1,5 +1,4 @@
 -- `idle::spare_all` meets its contract: each row leaves the lines no less full. Assumes nothing.
-use Prim.Native.Nat.{◌-◌}
 use native.Mathlib.Omega.{arith}
 use Rattle.idle.proofs.Pads.{spare_start, spare_can, spare_step}
 use Rattle.idle.proofs.spare_all.Goals as goal

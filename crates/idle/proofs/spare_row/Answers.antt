@@ -1,5 +1,4 @@
 -- `idle::spare_row` meets its contract: each pair that is padded leaves the lines no less full. Assumes nothing.
-use Prim.Native.Nat.{◌-◌}
 use native.Mathlib.Omega.{arith}
 use Rattle.idle.proofs.Pads.{spare_start, spare_can, spare_skip, spare_step}
 use Rattle.idle.proofs.spare_row.Goals as goal

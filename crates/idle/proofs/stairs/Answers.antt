@@ -1,5 +1,4 @@
 -- `idle::stairs` meets its contract: the rows and columns left behind lack nothing, so in the end no line does. Assumes nothing.
-use Prim.Native.Nat.{◌-◌}
 use native.Mathlib.Omega.{arith}
 use mathlib.Core.Logic.{inl, inr}
 use Rattle.idle.proofs.Pads.{stairs_start, stairs_can, stair_down, stair_right, stairs_end}

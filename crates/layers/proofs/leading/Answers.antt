@@ -1,5 +1,4 @@
 -- `layers::leading` meets its contract: the set is right for the nodes asked. Assumes nothing.
-use Prim.Native.Nat.{◌-◌}
 use native.Mathlib.Omega.{arith}
 use borrow.Author.Tests.{ltb-true, ltb-false}
 use Rattle.layers.proofs.LayerLaws.{lead_start, lead_step, lead_end}

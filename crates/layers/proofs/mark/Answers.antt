@@ -1,5 +1,4 @@
 -- `layers::mark` meets its contract: the marks of the lines passed are right. Assumes nothing.
-use Prim.Native.Nat.{◌-◌}
 use native.Mathlib.Omega.{arith}
 use Rattle.layers.proofs.LayerLaws.{mark_start, mark_step, mark_end}
 use Rattle.layers.proofs.mark.Goals as goal

@@ -1,8 +1,8 @@
 -- `put_bytes` appends all its bytes. The loop's invariant: the first k bytes are pasted. The measure is what is left of them. Assumes nothing.
-use Prim.Native.Nat.{◌-◌, ◌+◌}
+use Prim.Native.Nat.{◌+◌}
 use mathlib.Core.Path.{◌≡◌, refl, ap, ◌∙◌}
 use lib.ListN.{length, length-set, set, get_or}
-use lib.Seq.{paste, paste-zero, paste-suc}
+use lib.Seq.{paste-zero, paste-suc}
 use native.Mathlib.Numerals.{add-one}
 use native.Mathlib.Omega.{arith}
 use Rattle.pieces.proofs.PieceLaws.{appended_copy}

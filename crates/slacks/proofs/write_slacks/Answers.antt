@@ -1,10 +1,10 @@
 -- `slacks::write_slacks` meets its contract: the loop has written the slacks of the lines passed from the front, each from its sum. Assumes nothing.
-use Prim.Native.Nat.{◌<◌, ◌*◌, ◌-◌, ◌+◌}
+use Prim.Native.Nat.{◌<◌, ◌*◌}
 use native.Mathlib.Omega.{arith}
 use mathlib.Core.List.{◌++◌}
 use mathlib.Core.Path.{◌≡◌, refl, ap, ap₂, ◌∙◌}
 use lib.IntN.{pos, sub_ℕ}
-use lib.ListN.{length, drop, set, length-set}
+use lib.ListN.{drop, set, length-set}
 use mir.ValLaws.{to_z-of_z}
 use mir.Val.{to_z, of_z}
 use mir.Syntax.{w32}

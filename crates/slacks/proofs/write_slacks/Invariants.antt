@@ -1,6 +1,6 @@
-use Prim.Native.Nat.{◌≤◌, ◌*◌, ◌-◌, ◌+◌}
+use Prim.Native.Nat.{◌≤◌, ◌*◌, ◌-◌}
 use mathlib.Core.List.{◌++◌}
-use mathlib.Core.Path.{◌≡◌, ap}
+use mathlib.Core.Path.{◌≡◌}
 use lib.ListN.{length, drop}
 use Rattle.sums.specs.Tables.{tab}
 use Rattle.star.specs.Lines.{slack}

@@ -1,5 +1,4 @@
 -- `arrays::lists::fill` meets its contract: the places before k hold b, and a store adds one. Assumes nothing.
-use Prim.Native.Nat.{◌-◌}
 use native.Mathlib.Omega.{arith}
 use mathlib.Core.Path.{refl, ◌∙◌}
 use Rattle.sums.proofs.Fills.{set_more}

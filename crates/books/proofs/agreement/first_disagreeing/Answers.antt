@@ -1,5 +1,5 @@
 -- `first_disagreeing` meets its contract: the books of every pair passed agree; the scan leaves both loops at the first pair whose books do not. Assumes nothing.
-use Prim.Native.Nat.{ℕ, ◌*◌, ◌-◌}
+use Prim.Native.Nat.{ℕ, ◌*◌}
 use native.Mathlib.Omega.{arith}
 use native.Mathlib.Nat.{add-mul}
 use mathlib.Core.Path.{◌≡◌, refl, sym, ap, ◌∙◌}

@@ -1,5 +1,5 @@
 -- `clear` meets its contract: the cells passed are 0, the others are as before. Assumes nothing.
-use Prim.Native.Nat.{◌*◌, ◌-◌}
+use Prim.Native.Nat.{◌*◌}
 use native.Mathlib.Omega.{arith}
 use mathlib.Core.Path.{refl, ap, ◌∙◌}
 use Rattle.sums.specs.Tables.{written}

@@ -1,5 +1,5 @@
 -- `dequeue` meets its contract: the cells passed have lost what is kept, which is no more than waits; the others are as before. Assumes nothing.
-use Prim.Native.Nat.{◌*◌, ◌-◌}
+use Prim.Native.Nat.{◌*◌}
 use native.Mathlib.Omega.{arith}
 use mathlib.Core.Path.{refl}
 use Rattle.sums.proofs.Tables.{mul_small}

@@ -1,5 +1,5 @@
 -- `enqueue` meets its contract: the cells passed hold what waits after the arrival, the others are as before. Assumes nothing.
-use Prim.Native.Nat.{◌*◌, ◌-◌}
+use Prim.Native.Nat.{◌*◌}
 use native.Mathlib.Omega.{arith}
 use mathlib.Core.Path.{refl}
 use Rattle.sums.proofs.Tables.{mul_small}

@@ -3,7 +3,7 @@ use mathlib.Core.Path.{◌≡◌}
 use borrow.Author.Rules.{rules}
 use Rattle.fair.proofs.Comparisons.{next_start, next_ahead, next_behind}
 use native.Mathlib.Omega.{arith}
-use Prim.Native.Nat.{◌*◌, ◌-◌}
+use Prim.Native.Nat.{◌*◌}
 use Rattle.fair.proofs.choice.next_line.Goals as goal
 use Rattle.fair.proofs.choice.next_line.Goals.{then-ahead, else-ahead}
 

@@ -4,7 +4,6 @@ use Rattle.star.proofs.CrossingLaws.{crossing_lt}
 use lib.ListN.{length-set}
 use native.Mathlib.Omega.{arith}
 use mathlib.Core.Path.{◌≡◌}
-use Prim.Native.Nat.{◌-◌}
 use Rattle.fair.proofs.line.cut_line.Goals as goal
 
 pub offset_bounds-cap-line : goal.offset_bounds-cap-line

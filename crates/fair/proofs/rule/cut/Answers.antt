@@ -3,9 +3,9 @@ use Rattle.sums.proofs.Tables.{take_replicate}
 use Rattle.sums.specs.Tables.{written}
 use lib.Seq.{length-take-le}
 use native.Mathlib.Omega.{arith}
-use lib.ListN.{drop, replicate}
+use lib.ListN.{drop}
 use mathlib.Core.List.{◌++◌}
-use mathlib.Core.Path.{sym, ap}
+use mathlib.Core.Path.{ap}
 use Prim.Native.Nat.{◌*◌}
 use borrow.Author.Rules.{rules}
 use Rattle.fair.proofs.rule.cut.Goals as goal

@@ -2,7 +2,6 @@
 use Rattle.fair.proofs.Rounds.{stepped_start, stepped_comparable, stepped_can, stepped_more, stepped_early, stepped_end}
 use native.Mathlib.Omega.{arith}
 use mathlib.Core.Path.{refl, ◌∙◌}
-use Prim.Native.Nat.{◌-◌}
 use Rattle.fair.proofs.rule.cut_all.Goals as goal
 
 pub loop-steps-init : goal.loop-steps-init

@@ -1,6 +1,5 @@
 -- `flow::grow::grow` meets its contract: the lists are long enough. Assumes nothing.
 use native.Mathlib.Omega.{arith}
-use borrow.Author.Rules.{rules}
 use Rattle.flow.proofs.Grows.{can_grow}
 use Rattle.flow.proofs.grow.grow.Goals as goal
 

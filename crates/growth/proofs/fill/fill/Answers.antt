@@ -1,5 +1,4 @@
 -- `growth::fill::fill` meets its contract. The loop's invariant: the sets are right and the spans are kept. Assumes nothing.
-use Prim.Native.Nat.{◌-◌}
 use native.Mathlib.Omega.{arith}
 use mathlib.Core.Path.{refl, ◌∙◌}
 use Rattle.growth.proofs.Keeping.{grew_none, grew_join}

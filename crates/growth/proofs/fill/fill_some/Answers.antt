@@ -2,7 +2,7 @@
 -- headroom. The measure is what is left to do. Assumes nothing.
 use native.Mathlib.Omega.{arith}
 use mathlib.Core.Path.{refl, ◌∙◌}
-use lib.ListN.{length, set, length-set}
+use lib.ListN.{length-set}
 use Rattle.growth.proofs.Keeping.{grew_start, grew_given}
 use Rattle.growth.proofs.SetLaws.{left_falls}
 use Rattle.growth.proofs.fill.fill_some.Goals as goal

@@ -1,5 +1,5 @@
 -- `growth::sides::open_lines` meets its contract: the set is right for the lines looked at, and has no other. Assumes nothing.
-use Prim.Native.Nat.{◌+◌, ◌-◌}
+use Prim.Native.Nat.{◌+◌}
 use native.Mathlib.Omega.{arith}
 use lib.ListN.{get_or}
 use borrow.Author.Tests.{ltb-true, ltb-false}

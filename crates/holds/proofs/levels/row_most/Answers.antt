@@ -1,5 +1,4 @@
 -- `holds::levels::row_most` meets its contract: a 16-bit number is below 65,536. Assumes nothing.
-use Prim.Native.Nat.{◌-◌}
 use native.Mathlib.Omega.{arith}
 use Rattle.holds.proofs.levels.row_most.Goals as goal
 

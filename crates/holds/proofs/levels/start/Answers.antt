@@ -1,5 +1,4 @@
 -- `holds::levels::start` meets its contract: a number below 65,536 that is made at least 1. Assumes nothing.
-use Prim.Native.Nat.{◌-◌}
 use native.Mathlib.Omega.{arith}
 use Rattle.holds.proofs.levels.start.Goals as goal
 

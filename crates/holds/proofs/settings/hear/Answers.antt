@@ -1,5 +1,4 @@
 -- `holds::settings::hear` meets its contract: the bytes of the destinations passed are as defined, and each lasts for h slots. Assumes nothing.
-use Prim.Native.Nat.{◌-◌}
 use native.Mathlib.Omega.{arith}
 use Rattle.holds.proofs.HearLaws.{hear_start, hear_step, hear_end, heard_byte}
 use Rattle.holds.proofs.settings.hear.Goals as goal

@@ -1,7 +1,7 @@
 -- `holds::turns::pair` meets its contract: where not all are paired the level falls, and it never is below 1 (`level_two`). Assumes nothing.
 use native.Mathlib.Omega.{arith}
 use mathlib.Core.Path.{refl, ◌∙◌}
-use Rattle.holds.proofs.TurnLaws.{seek_match, seek_matched, level_two, seek_lower}
+use Rattle.holds.proofs.TurnLaws.{seek_matched, level_two, seek_lower}
 use Rattle.holds.proofs.turns.pair.Goals as goal
 
 pub loop-free-init : goal.loop-free-init

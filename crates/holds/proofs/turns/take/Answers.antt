@@ -1,5 +1,4 @@
 -- `holds::turns::take` meets its contract: h is taken at the destinations passed, the sets are right, and what is paired stays paired at both ends. Assumes nothing.
-use Prim.Native.Nat.{◌-◌}
 use native.Mathlib.Omega.{arith}
 use Rattle.holds.proofs.TakeLaws.{take_start, take_in, take_square, take_enough, take_square_2, take_skip, take_part, take_end}
 use Rattle.holds.proofs.turns.take.Goals as goal

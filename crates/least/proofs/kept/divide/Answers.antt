@@ -1,9 +1,9 @@
 -- `divide` meets its contract. The loop's invariant: the shares and claims of the cells passed are written, and their shares are summed.
 -- Assumes nothing.
-use Prim.Native.Nat.{◌-◌, ◌*◌}
+use Prim.Native.Nat.{◌*◌}
 use native.Mathlib.Omega.{arith}
 use mathlib.Core.Path.{◌≡◌, refl, sym, ap, ap₂, ◌∙◌}
-use lib.ListN.{length, get_or, set, length-set}
+use lib.ListN.{get_or, set, length-set}
 use borrow.Author.Rules.{rules}
 use Rattle.sums.proofs.Fills.{begun_at}
 use Rattle.sums.proofs.Sums.{sum_none, sum_more, sum_done}

@@ -1,6 +1,6 @@
 use Prim.Native.Nat.{◌≤◌, ◌-◌}
 use mathlib.Core.List.{◌++◌}
-use mathlib.Core.Path.{◌≡◌, ap}
+use mathlib.Core.Path.{◌≡◌}
 use lib.ListN.{length, get_or, drop}
 use Rattle.sums.specs.Sums.{sum_to}
 use Rattle.sums.specs.Tables.{tab}

@@ -1,6 +1,6 @@
 -- `give_shares` meets its contract. The loop's invariant: the cells of the line that were passed are rewritten, those off the line are as before.
 -- Assumes nothing.
-use Prim.Native.Nat.{◌-◌, ◌+◌}
+use Prim.Native.Nat.{◌+◌}
 use native.Mathlib.Omega.{arith}
 use mathlib.Core.Path.{refl, ap, ◌∙◌}
 use lib.Dec.{ltb}

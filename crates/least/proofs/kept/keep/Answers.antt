@@ -1,9 +1,8 @@
 -- `keep` meets its contract: it lends the first n * n cells, so that the others stay as they are. Assumes nothing.
 use Prim.Native.Nat.{◌*◌}
 use mathlib.Core.List.{◌++◌}
-use mathlib.Core.Path.{sym, ap}
+use mathlib.Core.Path.{ap}
 use lib.ListN.{drop}
-use lib.Seq.{length-take-le}
 use borrow.Author.Rules.{rules}
 use Rattle.sums.specs.Tables.{written}
 use Rattle.least.proofs.Cutting.{can_keep_exactly}

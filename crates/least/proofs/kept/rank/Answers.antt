@@ -1,5 +1,4 @@
 -- `rank` meets its contract. The loop's invariant: the cells passed with a larger claim are counted. Assumes nothing.
-use Prim.Native.Nat.{◌-◌}
 use native.Mathlib.Omega.{arith}
 use mathlib.Core.Path.{◌≡◌, sym}
 use lib.Dec.{ltb}

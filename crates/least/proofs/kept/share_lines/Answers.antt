@@ -1,5 +1,4 @@
 -- `share_lines` meets its contract. The loop's invariant: the lines passed are cut, `Cutting`. Assumes nothing.
-use Prim.Native.Nat.{◌-◌}
 use native.Mathlib.Omega.{arith}
 use mathlib.Core.Path.{refl, ◌∙◌}
 use Rattle.star.proofs.LineLaws.{demands_below}

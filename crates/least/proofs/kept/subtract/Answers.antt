@@ -2,7 +2,7 @@
 use Prim.Native.Nat.{◌-◌}
 use native.Mathlib.Omega.{arith}
 use mathlib.Core.Path.{refl, ap, ◌∙◌}
-use lib.ListN.{length, get_or, set, length-set}
+use lib.ListN.{get_or, set, length-set}
 use borrow.Author.Rules.{rules}
 use Rattle.sums.proofs.Tables.{tab_more}
 use Rattle.sums.specs.Tables.{tab}

@@ -1,5 +1,5 @@
 -- `excesses` meets its contract. The loop's invariant: the lines passed have their excess, the others still their sum. Assumes nothing.
-use Prim.Native.Nat.{◌<◌, ◌-◌}
+use Prim.Native.Nat.{◌<◌}
 use native.Mathlib.Omega.{arith}
 use mathlib.Core.Path.{refl, ap, ◌∙◌}
 use lib.ListN.{get_or}
@@ -9,7 +9,7 @@ use mir.Val.{to_z, of_z}
 use mir.ValLaws.{to_z-of_z}
 use Rattle.sums.proofs.Fills.{filled_none}
 use Rattle.star.proofs.SignedLaws.{sub_mag}
-use Rattle.star.specs.Lines.{excess, excess_of}
+use Rattle.star.specs.Lines.{excess_of}
 use Rattle.least.proofs.Withdrawals.{next_most, excess_next, excess_all}
 use Rattle.least.proofs.withdrawn.excesses.Goals as goal
 

@@ -1,5 +1,5 @@
 use Prim.Native.Nat.{◌≤◌, ◌-◌, ◌*◌}
-use mathlib.Core.Path.{◌≡◌, ap}
+use mathlib.Core.Path.{◌≡◌}
 use lib.ListN.{length}
 use Rattle.sums.proofs.Fills.{Filled}
 use Rattle.star.specs.Lines.{excess}

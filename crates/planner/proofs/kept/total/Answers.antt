@@ -1,5 +1,4 @@
 -- `planner::kept::total` meets its contract: the running sum is that of the rows passed. Assumes nothing.
-use Prim.Native.Nat.{◌-◌}
 use native.Mathlib.Omega.{arith}
 use mathlib.Core.Path.{◌≡◌, sym, ◌∙◌}
 use borrow.Author.Rules.{rules}

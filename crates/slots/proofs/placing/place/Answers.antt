@@ -1,5 +1,4 @@
 -- `slots::placing::place` meets its contract: the first n * n cells are lent, so that the others stay as they are. Assumes nothing.
-use mathlib.Core.Path.{sym}
 use lib.Seq.{length-take-le}
 use borrow.Author.Rules.{rules}
 use Rattle.slots.proofs.RoundLaws.{front_can, front_places}

@@ -1,5 +1,4 @@
 -- `slots::rounds::rounds` meets its contract: the loop keeps `Rounding`, and each turn writes a slot or more. Assumes nothing.
-use Prim.Native.Nat.{◌-◌}
 use native.Mathlib.Omega.{arith}
 use mathlib.Core.Path.{◌∙◌}
 use Rattle.slots.proofs.RoundLaws.{round_start, round_turn, round_frame, round_more, round_few, round_end}

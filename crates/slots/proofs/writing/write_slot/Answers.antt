@@ -1,5 +1,4 @@
 -- `slots::writing::write_slot` meets its contract: the destinations passed hold their bytes, and nothing else has changed. Assumes nothing.
-use Prim.Native.Nat.{◌-◌}
 use native.Mathlib.Omega.{arith}
 use Rattle.slots.proofs.WriteLaws.{write_start, write_step, write_end}
 use Rattle.slots.proofs.writing.write_slot.Goals as goal

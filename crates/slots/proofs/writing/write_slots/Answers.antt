@@ -1,5 +1,4 @@
 -- `slots::writing::write_slots` meets its contract: the slots passed hold the bytes, and nothing else has changed. Assumes nothing.
-use Prim.Native.Nat.{◌-◌}
 use native.Mathlib.Omega.{arith}
 use Rattle.arrays.proofs.Stores.{frame_kept, frame_slot}
 use Rattle.slots.proofs.WriteLaws.{fill_start, fill_step, fill_end}

@@ -1,8 +1,7 @@
 -- `star::lines::clear_columns` meets its contract: the columns passed have the sum 0. Assumes nothing.
-use Prim.Native.Nat.{◌-◌}
 use native.Mathlib.Omega.{arith}
 use mathlib.Core.Path.{refl}
-use lib.ListN.{length, length-set}
+use lib.ListN.{length-set}
 use Rattle.star.proofs.SumLaws.{unsummed_more}
 use Rattle.star.proofs.lines.clear_columns.Goals as goal
 

@@ -1,5 +1,4 @@
 -- `star::lines::first_above` meets its contract: no cell of a row passed is above 65,535, and the first row that has one is searched. Assumes nothing.
-use Prim.Native.Nat.{◌-◌}
 use native.Mathlib.Omega.{arith}
 use Rattle.sums.proofs.Tables.{mul_small, cell_lt}
 use Rattle.star.proofs.RowSearchLaws.{clear_more, found_in_row, found_none}

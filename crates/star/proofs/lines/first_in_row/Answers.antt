@@ -1,5 +1,5 @@
 -- `star::lines::first_in_row` meets its contract: no cell passed is above 65,535, and as the row has one that is, it stands further on. Assumes nothing.
-use Prim.Native.Nat.{ℕ, ◌≤◌, ◌-◌}
+use Prim.Native.Nat.{ℕ, ◌≤◌}
 use native.Mathlib.Omega.{arith}
 use borrow.Author.Count.{below_more}
 use Rattle.sums.specs.Tables.{cell}

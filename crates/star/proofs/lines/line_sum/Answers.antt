@@ -1,5 +1,4 @@
 -- `star::lines::line_sum` meets its contract: the running sum is the sum of the cells passed, each at most 65,535. Assumes nothing.
-use Prim.Native.Nat.{◌-◌}
 use native.Mathlib.Omega.{arith}
 use mathlib.Core.Path.{◌≡◌, sym}
 use borrow.Author.Rules.{rules}

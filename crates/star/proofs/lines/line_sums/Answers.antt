@@ -1,8 +1,7 @@
 -- `star::lines::line_sums` meets its contract: the rows passed are in the sums. Assumes nothing.
-use Prim.Native.Nat.{◌-◌}
 use native.Mathlib.Omega.{arith}
 use mathlib.Core.Path.{refl, ◌∙◌}
-use lib.ListN.{length, length-set}
+use lib.ListN.{length-set}
 use Rattle.star.proofs.SumLaws.{summed_none, summed_row, summed_all}
 use Rattle.star.proofs.lines.line_sums.Goals as goal
 

@@ -1,8 +1,7 @@
 -- `star::lines::sum_row` meets its contract: the cells passed are in the sum and in their columns' sums, at most 64 of at most 65,535 each. Assumes nothing.
-use Prim.Native.Nat.{◌-◌}
 use native.Mathlib.Omega.{arith}
 use mathlib.Core.Path.{◌≡◌, refl, sym, ◌∙◌}
-use lib.ListN.{length, length-set}
+use lib.ListN.{length-set}
 use Rattle.sums.proofs.Sums.{sum_none, sum_more, sum_done}
 use Rattle.sums.specs.Tables.{cell}
 use Rattle.star.proofs.SumLaws.{cell_most, row_most, column_most, summed_cell}

@@ -1,5 +1,5 @@
 -- `star::tables::clear` meets its contract: the loop has written zeros from the front. Assumes nothing.
-use Prim.Native.Nat.{◌*◌, ◌-◌}
+use Prim.Native.Nat.{◌*◌}
 use native.Mathlib.Omega.{arith}
 use mathlib.Core.Path.{refl, ap, ◌∙◌}
 use Rattle.sums.specs.Tables.{written}

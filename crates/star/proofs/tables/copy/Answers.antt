@@ -1,5 +1,4 @@
 -- `star::tables::copy` meets its contract: the loop has written the other table's cells from the front. Assumes nothing.
-use Prim.Native.Nat.{◌-◌}
 use native.Mathlib.Omega.{arith}
 use mathlib.Core.Path.{refl}
 use Rattle.sums.proofs.Fills.{filled_none, filled_more, filled_all}
