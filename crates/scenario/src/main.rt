@@ -1,18 +1,20 @@
 // The scenario program: reads standard input to its end, in whatever pieces it comes, and writes the answer.
 #![tactic(auto)]
 
-ghost use Rattle.std.specs.Prelude.{OnOk};
-ghost use Rattle.streams.specs.Streams.{AnswersInput};
+ghost use Rattle.std.specs.Prelude.{OnOk, OnErr};
+ghost use Rattle.streams.specs.Streams.{AnswersInput, AnswersPartly};
 ghost use Rattle.scenario_text.specs.Outcomes.{PrintsFile};
 
 use scenario_text::answers::{LONGEST_TEXT, answer};
 use std::io;
 use std::io::{Read, Write};
-use streams::read_full;
+use streams::{read_full, write_full};
 
 // Answers what the reader has left.
 fn answer_input<R: Read, W: Write>(reader: &mut R, writer: &mut W) -> io::Result<()>
-    ensures { OnOk result (AnswersInput 65537 PrintsFile
+    ensures ok { OnOk result (AnswersInput 65537 PrintsFile
+        (R.remaining reader.old) (R.remaining reader.new) (W.contents writer.old) (W.contents writer.new)) }
+    ensures err { OnErr result (AnswersPartly PrintsFile
         (R.remaining reader.old) (R.remaining reader.new) (W.contents writer.old) (W.contents writer.new)) }
 {
     // one byte more than an input may have, so that a longer one is seen
@@ -20,7 +22,7 @@ fn answer_input<R: Read, W: Write>(reader: &mut R, writer: &mut W) -> io::Result
     let got = read_full(reader, &mut input)?;
     let mut out = [0u8; LONGEST_TEXT];
     let length = answer(&input[..got], &mut out);
-    writer.write_all(&out[..length])
+    write_full(writer, &out[..length])
 }
 
 fn main(rt: HostRuntime) -> io::Result<()> {
