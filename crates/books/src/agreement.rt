@@ -39,7 +39,7 @@ fn agree_at(
     j: usize,
 ) -> bool
     requires tables { Tables n waiting.now posted.now sent.now dropped.now }
-    requires i_lt_n { (i < n) × (j < n) }
+    requires pair { (i < n) × (j < n) }
     ensures { result ≡ books_agree limit posts waiting.now posted.now sent.now dropped.now (i * n + j) }
 {
     agrees(

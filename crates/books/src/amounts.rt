@@ -8,7 +8,7 @@ ghost use Rattle.books.specs.Rooms.{Adds};
 // The amount of the pair of source i and destination j.
 pub fn amount(n: usize, amounts: &[u64], i: usize, j: usize) -> u64
     requires square { Square n amounts.now }
-    requires i_lt_n { (i < n) × (j < n) }
+    requires pair { (i < n) × (j < n) }
     ensures { result ≡ cell n amounts.now i j }
 {
     amounts[i * n + j]

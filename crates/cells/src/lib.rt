@@ -12,7 +12,7 @@ use star::tables::{get, put};
 // What the pair of source i and destination j still gets.
 pub fn padded(n: usize, table: &[u32], i: usize, j: usize) -> u32
     requires square { Square n table.now }
-    requires i_lt_n { (i < n) × (j < n) }
+    requires pair { (i < n) × (j < n) }
     ensures { (result ≡ cell n (padded_in table.now) i j) × (result < 65536) }
 {
     get(n, table, i, j) / 65536
@@ -21,7 +21,7 @@ pub fn padded(n: usize, table: &[u32], i: usize, j: usize) -> u32
 // What the pair keeps.
 pub fn kept(n: usize, table: &[u32], i: usize, j: usize) -> u32
     requires square { Square n table.now }
-    requires i_lt_n { (i < n) × (j < n) }
+    requires pair { (i < n) × (j < n) }
     ensures { (result ≡ cell n (kept_in table.now) i j) × (result < 65536) }
 {
     get(n, table, i, j) % 65536
@@ -30,7 +30,7 @@ pub fn kept(n: usize, table: &[u32], i: usize, j: usize) -> u32
 // The pair gets h slots more.
 pub fn give(n: usize, table: &mut [u32], i: usize, j: usize, h: u32)
     requires square { Square n table.old }
-    requires i_lt_n { (i < n) × (j < n) × (cell n (padded_in table.old) i j + h < 65536) }
+    requires pair { (i < n) × (j < n) × (cell n (padded_in table.old) i j + h < 65536) }
     ensures { Gave n table.old table.new i j h }
 {
     put(n, table, i, j, get(n, table, i, j) + h * 65536);
@@ -39,7 +39,7 @@ pub fn give(n: usize, table: &mut [u32], i: usize, j: usize, h: u32)
 // The pair gets h slots fewer.
 pub fn take(n: usize, table: &mut [u32], i: usize, j: usize, h: u32)
     requires square { Square n table.old }
-    requires i_lt_n { (i < n) × (j < n) × (h ≤ cell n (padded_in table.old) i j) }
+    requires pair { (i < n) × (j < n) × (h ≤ cell n (padded_in table.old) i j) }
     ensures { Took n table.old table.new i j h }
 {
     put(n, table, i, j, get(n, table, i, j) - h * 65536);

@@ -5,7 +5,7 @@ ghost use Rattle.fair.specs.Cuts.{Comparable, Ahead, NextLine};
 // Whether a line is to be taken rather than the one found so far (2n where there is none).
 fn ahead(n: usize, cap: &[u32], a: &[u32], b: &[u32], line: usize, found: usize) -> bool
     requires comparable { Comparable n cap.now a.now b.now }
-    requires line_bound { line < 2 * n }
+    requires on_line { line < 2 * n }
     ensures { Ahead n cap.now a.now b.now line found result }
 {
     if a[line] + b[line] <= cap[line] {

@@ -21,7 +21,7 @@ fn fill_at(
     want: u32,
 ) -> u32
     requires sides { Sides n bound.now a.old offers.old takers.old }
-    requires n_in_bounds { (2 * n ≤ length headroom.old) × (i < n) × (j < n) }
+    requires room { (2 * n ≤ length headroom.old) × (i < n) × (j < n) }
     ensures { GrewAt n bound.now a.old headroom.old a.new headroom.new offers.new takers.new i j want result }
 {
     let spare = get(n, bound, i, j) - get(n, a, i, j);
@@ -47,7 +47,7 @@ fn fill_some(
     open_rows: u64,
 ) -> u64
     requires sides { Sides n bound.now a.old offers.old takers.old }
-    requires n_in_bounds { (2 * n ≤ length headroom.old) × (j < n) }
+    requires room { (2 * n ≤ length headroom.old) × (j < n) }
     ensures { Grew n bound.now a.old headroom.old a.new headroom.new offers.new takers.new }
 {
     let mut left = open_rows;
@@ -81,7 +81,7 @@ pub fn fill(
     rows: u64,
 )
     requires sides { Sides n bound.now a.old offers.old takers.old }
-    requires n_in_bounds { 2 * n ≤ length headroom.old }
+    requires room { 2 * n ≤ length headroom.old }
     ensures { Grew n bound.now a.old headroom.old a.new headroom.new offers.new takers.new }
 {
     let mut left = rows;

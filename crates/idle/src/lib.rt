@@ -50,7 +50,7 @@ fn lacks(n: usize, lack: &mut [u32], r: u32)
 // Gives the pair as many idle slots as its row and its column both lack.
 fn pad_at(n: usize, table: &mut [u32], lack: &mut [u32], i: usize, j: usize)
     requires can_pad { CanPad n table.old lack.old }
-    requires i_lt_n { (i < n) × (j < n) }
+    requires pair { (i < n) × (j < n) }
     ensures { PaddedAt n table.old lack.old table.new lack.new i j }
 {
     let row = lack[i];
@@ -73,7 +73,7 @@ fn after(n: usize, j: usize) -> usize
 // changes by itself.
 fn spare_row(n: usize, table: &mut [u32], lack: &mut [u32], i: usize)
     requires can_pad { CanPad n table.old lack.old }
-    requires i_lt_n { i < n }
+    requires pair { i < n }
     ensures { Fuller n table.old lack.old table.new lack.new }
 {
     let mut j = i;
@@ -128,7 +128,7 @@ fn stairs(n: usize, table: &mut [u32], lack: &mut [u32])
 // Pads the matrix, with a list to work in for what the lines lack.
 fn pad_with(n: usize, table: &mut [u32], lack: &mut [u32]) -> u32
     requires can_fill { CanFill n table.old }
-    requires n_in_bounds { 2 * n ≤ length lack.old }
+    requires room { 2 * n ≤ length lack.old }
     ensures { Padded n table.old table.new result }
 {
     line_sums(n, table, lack);

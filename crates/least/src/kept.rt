@@ -13,7 +13,7 @@ use star::lines::{line_sums, on_line, put_on_line};
 fn subtract(n: usize, demand: &[u32], withdrawn: &[u32], table: &mut [u32])
     requires square { (Square n demand.now) × (Square n withdrawn.now) }
     requires table_len { length table.old ≡ n * n }
-    requires by_index { (p : ℕ) → p < n * n → get_or withdrawn.now p 0 ≤ get_or demand.now p 0 }
+    requires below { (p : ℕ) → p < n * n → get_or withdrawn.now p 0 ≤ get_or demand.now p 0 }
     ensures { table.new ≡ left n demand.now withdrawn.now }
 {
     let cells = n * n;
@@ -43,8 +43,8 @@ fn divide(
     claims: &mut [u32],
 ) -> u32
     requires line { Line n cap.now table.now line }
-    requires n_in_bounds { (n ≤ length shares.old) × (n ≤ length claims.old) }
-    requires sum_value { (sum ≡ line_sum n table.now line) × (get_or cap.now line 0 < sum) }
+    requires room { (n ≤ length shares.old) × (n ≤ length claims.old) }
+    requires too_long { (sum ≡ line_sum n table.now line) × (get_or cap.now line 0 < sum) }
     ensures { Divided n cap.now table.now line shares.new claims.new result }
 {
     let capacity = cap[line];
@@ -69,8 +69,8 @@ fn outranks(one: u32, other: u32) -> u32
 
 // How many cells of a line come before cell t, given the claim of each: one comparison a cell, which the machine makes for several at once.
 fn rank(n: usize, claims: &[u32], t: usize) -> u32
-    requires n_bound { (n ≤ 64) × (t < n) }
-    requires n_in_bounds { n ≤ length claims.now }
+    requires node { (n ≤ 64) × (t < n) }
+    requires room { n ≤ length claims.now }
     ensures { result ≡ outranking n claims.now t }
 {
     let mut count: u32 = 0;
@@ -100,8 +100,8 @@ fn give_shares(
     missing: u32,
 )
     requires square { (Square n table.old) × (line < 2 * n) }
-    requires n_in_bounds { (n ≤ length shares.now) × (n ≤ length claims.now) }
-    requires by_index { (t : ℕ) → t < n → get_or shares.now t 0 ≤ 67107840 }
+    requires room { (n ≤ length shares.now) × (n ≤ length claims.now) }
+    requires below { (t : ℕ) → t < n → get_or shares.now t 0 ≤ 67107840 }
     ensures { Rewritten n line (λ t. get_or shares.now t 0 + bit (ltb (outranking n claims.now t) missing)) table.old table.new }
 {
     let mut t = 0;
@@ -115,7 +115,7 @@ fn give_shares(
 // Cuts a line too long, whose sum is given, to its capacity.
 fn share_line(n: usize, cap: &[u32], table: &mut [u32], line: usize, sum: u32)
     requires line { Line n cap.now table.old line }
-    requires sum_value { (sum ≡ line_sum n table.old line) × (get_or cap.now line 0 < sum) }
+    requires too_long { (sum ≡ line_sum n table.old line) × (get_or cap.now line 0 < sum) }
     ensures { Rewritten n line (shared n cap.now table.old line) table.old table.new }
 {
     let mut shares = [0u32; 64];

@@ -39,7 +39,7 @@ fn put_answer(
     rule: u32,
     kept: &[u32],
 ) -> usize
-    requires longest_text_in_bounds { longest_text ≤ length out.old }
+    requires room { longest_text ≤ length out.old }
     requires printable { Printable nodes kept.now answer }
     ensures { Appended out.old out.new 0 result (answer_text whole nodes slots rule kept.now answer) }
 {

@@ -19,7 +19,7 @@ fn mark_after(n: usize, j: usize) -> u8
 // The number of destination j, and the byte after it.
 fn put_cell(out: &mut [u8], at: usize, n: usize, kept: &[u32], i: usize, j: usize) -> usize
     requires square { (Square n kept.now) × (i < n) × (j < n) }
-    requires j_in_bounds { at + length (cell_text n kept.now i j) ≤ length out.old }
+    requires fits { at + length (cell_text n kept.now i j) ≤ length out.old }
     ensures { Appended out.old out.new at result (cell_text n kept.now i j) }
 {
     put_marked(out, at, get(n, kept, i, j) as u64, mark_after(n, j))
@@ -28,7 +28,7 @@ fn put_cell(out: &mut [u8], at: usize, n: usize, kept: &[u32], i: usize, j: usiz
 // The line of source i.
 fn put_row(out: &mut [u8], at: usize, n: usize, kept: &[u32], i: usize) -> usize
     requires square { (Square n kept.now) × (i < n) }
-    requires i_in_bounds { at + length (row_text n kept.now i) ≤ length out.old }
+    requires fits { at + length (row_text n kept.now i) ≤ length out.old }
     ensures { Appended out.old out.new at result (row_text n kept.now i) }
 {
     let mut next = at;
@@ -43,7 +43,7 @@ fn put_row(out: &mut [u8], at: usize, n: usize, kept: &[u32], i: usize) -> usize
 // A line for each source.
 fn put_rows(out: &mut [u8], at: usize, n: usize, kept: &[u32]) -> usize
     requires square { Square n kept.now }
-    requires kept_in_bounds { at + length (rows_text n kept.now) ≤ length out.old }
+    requires fits { at + length (rows_text n kept.now) ≤ length out.old }
     ensures { Appended out.old out.new at result (rows_text n kept.now) }
 {
     let mut next = at;
@@ -87,7 +87,7 @@ pub fn put_plan(
     kept: &[u32],
 ) -> usize
     requires square { Square nodes kept.now }
-    requires longest_text_in_bounds { longest_text ≤ length out.old }
+    requires room { longest_text ≤ length out.old }
     ensures { Appended out.old out.new 0 result (plan_text nodes slots rule keeps refuses kept.now) }
 {
     let after_head = put_head(out, 0, nodes, slots, rule);

@@ -107,7 +107,7 @@ fn play_entry(
     dropped: &mut [u64],
 ) -> Run
     requires can_play { CanPlay file.now e (held old waiting.old posted.old sent.old dropped.old) }
-    requires e_bound { e < entries_of file.now }
+    requires entry { e < entries_of file.now }
     ensures { Played file.now (e + 1) (held result waiting.new posted.new sent.new dropped.new) }
 {
     if four(file, 20 + 8 * e) == 0 {
@@ -130,7 +130,7 @@ fn play_entries(
     dropped: &mut [u64],
 ) -> Run
     requires can_play { CanPlay file.now 0 (held start waiting.old posted.old sent.old dropped.old) }
-    requires entries_value { entries ≡ entries_of file.now }
+    requires all_entries { entries ≡ entries_of file.now }
     ensures { Played file.now (entries_of file.now) (held result waiting.new posted.new sent.new dropped.new) }
 {
     let mut run = start;
@@ -150,7 +150,7 @@ pub fn play(
     sent: &mut [u64],
     dropped: &mut [u64],
 ) -> Run
-    requires file_value { read_verdict file.now ≡ Accepted }
+    requires in_order { read_verdict file.now ≡ Accepted }
     requires large_tables { LargeTables waiting.old posted.old sent.old dropped.old }
     ensures { Played file.now (entries_of file.now) (held result waiting.new posted.new sent.new dropped.new) }
 {

@@ -57,7 +57,7 @@ pub fn put_lines(
     dropped: &[u64],
     waiting: &[u32],
 ) -> usize
-    requires le_n { (1 ≤ n) × (n ≤ 64) × (longest_text ≤ length out.old) }
+    requires numbers { (1 ≤ n) × (n ≤ 64) × (longest_text ≤ length out.old) }
     requires large_tables { LargeTables waiting.now posted.now sent.now dropped.now }
     ensures { (Appended out.old out.new 0 result (lines_text n posted.now sent.now dropped.now waiting.now)) × (result ≤ longest_text) }
 {

@@ -20,7 +20,7 @@ fn rest(n: usize, r: usize, l: usize, schedule: &mut [u8]) -> u32
 // Places the kept matrix, in a table that has no further cells.
 fn place_exactly(n: usize, l: usize, kept: &mut [u32], schedule: &mut [u8]) -> u32
     requires can_place { CanPlace n l kept.old schedule.old }
-    requires kept_len { length kept.old ≡ n * n }
+    requires exact { length kept.old ≡ n * n }
     ensures { Places n l kept.old schedule.old kept.new schedule.new result }
 {
     let r = idle::pad(n, kept) as usize;

@@ -20,7 +20,7 @@ fn write_slot(n: usize, schedule: &mut [u8], bytes: &[u8], k: usize)
 // Writes the bytes into the slots from `from` up to `to`.
 fn write_slots(n: usize, schedule: &mut [u8], bytes: &[u8], from: usize, to: usize)
     requires frame { Frame n to schedule.old }
-    requires n_in_bounds { (n ≤ length bytes.now) × (from ≤ to) }
+    requires room { (n ≤ length bytes.now) × (from ≤ to) }
     ensures { WroteSlots n schedule.old schedule.new bytes.now from to }
 {
     let mut k = from;
@@ -33,7 +33,7 @@ fn write_slots(n: usize, schedule: &mut [u8], bytes: &[u8], from: usize, to: usi
 // The slots from `from` up to `to` hold the setting; gives the reconfigurations that this adds.
 pub fn extend(n: usize, schedule: &mut [u8], setting: &[u8], from: usize, to: usize) -> u32
     requires frame { Frame n to schedule.old }
-    requires n_in_bounds { (n ≤ length setting.now) × (from < to) }
+    requires room { (n ≤ length setting.now) × (from < to) }
     ensures { Extended n schedule.old schedule.new setting.now from to result }
 {
     let more = changes::change(n, schedule, from, setting);

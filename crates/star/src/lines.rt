@@ -23,7 +23,7 @@ pub fn crossing(n: usize, line: usize, t: usize) -> usize
 // What the t-th pair of a line has.
 pub fn on_line(n: usize, table: &[u32], line: usize, t: usize) -> u32
     requires square { Square n table.now }
-    requires line_bound { (line < 2 * n) × (t < n) }
+    requires on_line { (line < 2 * n) × (t < n) }
     ensures { result ≡ on_line n table.now line t }
 {
     if line < n {
@@ -36,7 +36,7 @@ pub fn on_line(n: usize, table: &[u32], line: usize, t: usize) -> u32
 // The t-th pair of a line has x from now on.
 pub fn put_on_line(n: usize, table: &mut [u32], line: usize, t: usize, x: u32)
     requires square { Square n table.old }
-    requires line_bound { (line < 2 * n) × (t < n) }
+    requires on_line { (line < 2 * n) × (t < n) }
     ensures { table.new ≡ set table.old (source_on n line t * n + destination_on n line t) x }
 {
     if line < n {
@@ -50,7 +50,7 @@ pub fn put_on_line(n: usize, table: &mut [u32], line: usize, t: usize, x: u32)
 pub fn line_sum(n: usize, demand: &[u32], line: usize) -> u32
     requires square { Square n demand.now }
     requires demands { Demands n demand.now }
-    requires line_bound { line < 2 * n }
+    requires on_line { line < 2 * n }
     ensures { (result ≡ line_sum n demand.now line) × (result ≤ 4194240) }
 {
     let mut sum: u32 = 0;
@@ -78,7 +78,7 @@ fn clear_columns(n: usize, sums: &mut [u32])
 fn sum_row(n: usize, table: &[u32], sums: &mut [u32], i: usize) -> u32
     requires square { Square n table.now }
     requires demands { Demands n table.now }
-    requires n_in_bounds { (2 * n ≤ length sums.old) × (i < n) × (SummedTo n table.now sums.old i 0) }
+    requires room { (2 * n ≤ length sums.old) × (i < n) × (SummedTo n table.now sums.old i 0) }
     ensures { (result ≡ line_sum n table.now i) × (SummedTo n table.now sums.new i n) }
 {
     let mut sum: u32 = 0;
@@ -96,7 +96,7 @@ fn sum_row(n: usize, table: &[u32], sums: &mut [u32], i: usize) -> u32
 pub fn line_sums(n: usize, table: &[u32], sums: &mut [u32])
     requires square { Square n table.now }
     requires demands { Demands n table.now }
-    requires n_in_bounds { 2 * n ≤ length sums.old }
+    requires room { 2 * n ≤ length sums.old }
     ensures { Summed n table.now sums.new }
 {
     clear_columns(n, sums);

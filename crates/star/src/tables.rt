@@ -6,7 +6,7 @@ ghost use Rattle.star.specs.Rooms.{Square};
 // What the pair of source i and destination j has.
 pub fn get(n: usize, table: &[u32], i: usize, j: usize) -> u32
     requires square { Square n table.now }
-    requires i_lt_n { (i < n) × (j < n) }
+    requires pair { (i < n) × (j < n) }
     ensures { result ≡ cell n table.now i j }
 {
     table[i * n + j]
@@ -15,7 +15,7 @@ pub fn get(n: usize, table: &[u32], i: usize, j: usize) -> u32
 // The pair of source i and destination j has x from now on.
 pub fn put(n: usize, table: &mut [u32], i: usize, j: usize, x: u32)
     requires square { Square n table.old }
-    requires i_lt_n { (i < n) × (j < n) }
+    requires pair { (i < n) × (j < n) }
     ensures { table.new ≡ set table.old (i * n + j) x }
 {
     table[i * n + j] = x;

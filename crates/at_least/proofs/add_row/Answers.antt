@@ -8,7 +8,7 @@ pub loop-j-init : goal.loop-j-init
 loop-j-init c = row_start _ _ _ _ _ _
 
 pub get-requires : goal.get-requires
-get-requires c = record { square = c.requires.0; i_lt_n = (c.requires.2, c.loop-j-test.true) }
+get-requires c = record { square = c.requires.0; pair = (c.requires.2, c.loop-j-test.true) }
 
 pub offset_bounds-half-j : goal.offset_bounds-half-j
 offset_bounds-half-j c = omega (arith, c.requires.0.nodes)

@@ -11,7 +11,7 @@ pub overflow_mul-h : goal.overflow_mul-h
 overflow_mul-h c = search rules
 
 pub overflow_add-get : goal.overflow_add-get
-overflow_add-get c = omega (arith, c.get.ensures, c.requires.i_lt_n.2, padded_cell c.args.n c.args.table.now c.args.i c.args.j)
+overflow_add-get c = omega (arith, c.get.ensures, c.requires.pair.2, padded_cell c.args.n c.args.table.now c.args.i c.args.j)
 
 pub put-requires : goal.put-requires
 put-requires c = search rules

@@ -8,10 +8,10 @@ pub get-requires : goal.get-requires
 get-requires c = search rules
 
 pub overflow_mul-h : goal.overflow_mul-h
-overflow_mul-h c = omega (arith, c.get.ensures, c.requires.i_lt_n.2, padded_cell c.args.n c.args.table.now c.args.i c.args.j)
+overflow_mul-h c = omega (arith, c.get.ensures, c.requires.pair.2, padded_cell c.args.n c.args.table.now c.args.i c.args.j)
 
 pub overflow_sub-get : goal.overflow_sub-get
-overflow_sub-get c = omega (arith, c.get.ensures, c.requires.i_lt_n.2, padded_cell c.args.n c.args.table.now c.args.i c.args.j)
+overflow_sub-get c = omega (arith, c.get.ensures, c.requires.pair.2, padded_cell c.args.n c.args.table.now c.args.i c.args.j)
 
 pub put-requires : goal.put-requires
 put-requires c = search rules
@@ -20,4 +20,4 @@ pub shape_of-table : goal.shape_of-table
 shape_of-table c = search rules
 
 pub returns : goal.returns
-returns c = rw c.put.ensures (take_law c.get.ensures (omega (arith, c.get.ensures, c.requires.i_lt_n.2, padded_cell c.args.n c.args.table.now c.args.i c.args.j)))
+returns c = rw c.put.ensures (take_law c.get.ensures (omega (arith, c.get.ensures, c.requires.pair.2, padded_cell c.args.n c.args.table.now c.args.i c.args.j)))

@@ -11,7 +11,7 @@ pub open_lines-rows-requires : goal.open_lines-rows-requires
 open_lines-rows-requires c = (c.requires.below.cells.nodes, omega (arith, c.requires.headrooms))
 
 pub fill-requires : goal.fill-requires
-fill-requires c = record { sides = empty_sides c.requires c.rows.ensures (omega (arith, c.rows.auto.sets, c.requires.below.cells.nodes)); n_in_bounds = c.requires.headrooms }
+fill-requires c = record { sides = empty_sides c.requires c.rows.ensures (omega (arith, c.rows.auto.sets, c.requires.below.cells.nodes)); room = c.requires.headrooms }
 
 pub grow-requires : goal.grow-requires
 grow-requires c = (c.fill.ensures.sides, omega (arith, c.requires.headrooms, c.fill.auto.headroom), c.requires.lines)

@@ -25,7 +25,7 @@ pub smaller-idle-requires : goal.smaller-idle-requires
 smaller-idle-requires c = search rules
 
 pub give-requires : goal.give-requires
-give-requires c = record { square = c.requires.can_pad.square; i_lt_n = (c.requires.i_lt_n.0, c.requires.i_lt_n.1, omega (arith, pad_small c.requires.can_pad c.requires.i_lt_n.0 c.requires.i_lt_n.1 refl refl c.smaller-idle.ensures)) }
+give-requires c = record { square = c.requires.can_pad.square; pair = (c.requires.pair.0, c.requires.pair.1, omega (arith, pad_small c.requires.can_pad c.requires.pair.0 c.requires.pair.1 refl refl c.smaller-idle.ensures)) }
 
 pub overflow_sub-lack : goal.overflow_sub-lack
 overflow_sub-lack c = search rules
@@ -46,7 +46,7 @@ pub offset_bounds-lack-n-2 : goal.offset_bounds-lack-n-2
 offset_bounds-lack-n-2 c = search rules
 
 pub bounds-lack-n-2 : goal.bounds-lack-n-2
-bounds-lack-n-2 c = simp length-set (omega (arith, c.requires.can_pad.lines, c.requires.i_lt_n.1))
+bounds-lack-n-2 c = simp length-set (omega (arith, c.requires.can_pad.lines, c.requires.pair.1))
 
 pub shape_of-table : goal.shape_of-table
 shape_of-table c = search rules
@@ -55,4 +55,4 @@ pub shape_of-lack : goal.shape_of-lack
 shape_of-lack c = search rules
 
 pub returns : goal.returns
-returns c = pad_law c.requires.can_pad c.requires.i_lt_n.0 c.requires.i_lt_n.1 refl refl c.smaller-idle.ensures c.give.ensures
+returns c = pad_law c.requires.can_pad c.requires.pair.0 c.requires.pair.1 refl refl c.smaller-idle.ensures c.give.ensures

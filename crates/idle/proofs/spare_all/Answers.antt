@@ -7,7 +7,7 @@ pub loop-i-init : goal.loop-i-init
 loop-i-init c = spare_start _ _ _
 
 pub spare_row-requires : goal.spare_row-requires
-spare_row-requires c = record { can_pad = spare_can c.requires c.loop-i.invariant; i_lt_n = c.loop-i-test.true }
+spare_row-requires c = record { can_pad = spare_can c.requires c.loop-i.invariant; pair = c.loop-i-test.true }
 
 pub overflow_add-i : goal.overflow_add-i
 overflow_add-i c = omega (arith, c.requires.square.nodes)

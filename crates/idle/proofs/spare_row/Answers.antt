@@ -4,13 +4,13 @@ use Rattle.idle.proofs.Pads.{spare_start, spare_can, spare_skip, spare_step}
 use Rattle.idle.proofs.spare_row.Goals as goal
 
 pub loop-passed-init : goal.loop-passed-init
-loop-passed-init c = (c.requires.i_lt_n, spare_start _ _ _)
+loop-passed-init c = (c.requires.pair, spare_start _ _ _)
 
 pub offset_bounds-lack-i : goal.offset_bounds-lack-i
-offset_bounds-lack-i c = omega (arith, c.requires.can_pad.square.nodes, c.requires.i_lt_n)
+offset_bounds-lack-i c = omega (arith, c.requires.can_pad.square.nodes, c.requires.pair)
 
 pub bounds-lack-i : goal.bounds-lack-i
-bounds-lack-i c = omega (arith, c.requires.can_pad.lines, c.requires.i_lt_n, c.loop-passed.invariant.1.lack_len)
+bounds-lack-i c = omega (arith, c.requires.can_pad.lines, c.requires.pair, c.loop-passed.invariant.1.lack_len)
 
 pub shape_of-table-then-lack-i-eq0 : goal.shape_of-table-then-lack-i-eq0
 shape_of-table-then-lack-i-eq0 c = c.loop-passed.invariant.1.table_len
@@ -22,7 +22,7 @@ pub returns-then-lack-i-eq0 : goal.returns-then-lack-i-eq0
 returns-then-lack-i-eq0 c = c.loop-passed.invariant.1.fuller
 
 pub kept-requires : goal.kept-requires
-kept-requires c = record { square = (spare_can c.requires.can_pad c.loop-passed.invariant.1).square; i_lt_n = (c.requires.i_lt_n, c.loop-passed.invariant.0) }
+kept-requires c = record { square = (spare_can c.requires.can_pad c.loop-passed.invariant.1).square; pair = (c.requires.pair, c.loop-passed.invariant.0) }
 
 pub after-j-requires : goal.after-j-requires
 after-j-requires c = (c.requires.can_pad.square.nodes, c.loop-passed.invariant.0)
@@ -37,7 +37,7 @@ pub loop-passed-preserved-then-kept-gt0 : goal.loop-passed-preserved-then-kept-g
 loop-passed-preserved-then-kept-gt0 c = (c.after-j.ensures, spare_skip c.loop-passed-test.true c.loop-passed.invariant.1)
 
 pub pad_at-requires : goal.pad_at-requires
-pad_at-requires c = record { can_pad = spare_can c.requires.can_pad c.loop-passed.invariant.1; i_lt_n = (c.requires.i_lt_n, c.loop-passed.invariant.0) }
+pad_at-requires c = record { can_pad = spare_can c.requires.can_pad c.loop-passed.invariant.1; pair = (c.requires.pair, c.loop-passed.invariant.0) }
 
 pub after-j-requires-in-loop-passed : goal.after-j-requires-in-loop-passed
 after-j-requires-in-loop-passed c = (c.requires.can_pad.square.nodes, c.loop-passed.invariant.0)

@@ -17,7 +17,7 @@ pub returns-then-j-n : goal.returns-then-j-n
 returns-then-j-n c = stairs_end c.loop-i.invariant (inr c.if-j-n.true)
 
 pub pad_at-requires : goal.pad_at-requires
-pad_at-requires c = record { can_pad = stairs_can c.requires c.loop-i.invariant; i_lt_n = (c.loop-i-test.true, c.if-j-n.false) }
+pad_at-requires c = record { can_pad = stairs_can c.requires c.loop-i.invariant; pair = (c.loop-i-test.true, c.if-j-n.false) }
 
 pub offset_bounds-lack-i : goal.offset_bounds-lack-i
 offset_bounds-lack-i c = omega (arith, c.requires.square.nodes, c.loop-i-test.true)

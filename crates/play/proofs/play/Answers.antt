@@ -7,19 +7,19 @@ use Rattle.play.proofs.play.Goals as goal
 
 -- `play` meets its contract: the fresh start of an accepted file is accepted, and a history begins. Assumes nothing.
 pub four-nodes-requires : goal.four-nodes-requires
-four-nodes-requires c = omega (arith, (accepted_sound c.args.file.now c.requires.file_value).table.head)
+four-nodes-requires c = omega (arith, (accepted_sound c.args.file.now c.requires.in_order).table.head)
 
 pub four-slots-requires : goal.four-slots-requires
-four-slots-requires c = omega (arith, (accepted_sound c.args.file.now c.requires.file_value).table.head)
+four-slots-requires c = omega (arith, (accepted_sound c.args.file.now c.requires.in_order).table.head)
 
 pub four-limit-requires : goal.four-limit-requires
-four-limit-requires c = omega (arith, (accepted_sound c.args.file.now c.requires.file_value).table.head)
+four-limit-requires c = omega (arith, (accepted_sound c.args.file.now c.requires.in_order).table.head)
 
 pub four-rule-requires : goal.four-rule-requires
-four-rule-requires c = omega (arith, (accepted_sound c.args.file.now c.requires.file_value).table.head)
+four-rule-requires c = omega (arith, (accepted_sound c.args.file.now c.requires.in_order).table.head)
 
 pub four-entries-requires : goal.four-entries-requires
-four-entries-requires c = omega (arith, (accepted_sound c.args.file.now c.requires.file_value).table.head)
+four-entries-requires c = omega (arith, (accepted_sound c.args.file.now c.requires.in_order).table.head)
 
 pub overflow_cast-entries : goal.overflow_cast-entries
 overflow_cast-entries c = search rules
@@ -31,7 +31,7 @@ pub fresh_on-requires : goal.fresh_on-requires
 fresh_on-requires c = tt
 
 pub play_entries-requires : goal.play_entries-requires
-play_entries-requires c = record { can_play = can_start c.args.file.now c.requires.file_value c.four-nodes.ensures c.four-slots.ensures c.four-limit.ensures c.four-rule.ensures c.requires.large_tables c.fresh_on.ensures c.started-start.ensures; entries_value = c.four-entries.ensures }
+play_entries-requires c = record { can_play = can_start c.args.file.now c.requires.in_order c.four-nodes.ensures c.four-slots.ensures c.four-limit.ensures c.four-rule.ensures c.requires.large_tables c.fresh_on.ensures c.started-start.ensures; all_entries = c.four-entries.ensures }
 
 pub shape_of-waiting : goal.shape_of-waiting
 shape_of-waiting c = c.play_entries.auto.waiting ∙ c.fresh_on.auto.waiting

@@ -7,7 +7,7 @@ pub loop-e-init : goal.loop-e-init
 loop-e-init c = (omega arith, c.requires.can_play, refl, refl, refl, refl)
 
 pub play_entry-run-requires : goal.play_entry-run-requires
-play_entry-run-requires c = record { can_play = c.loop-e.invariant.1; e_bound = omega (arith, c.requires.entries_value, c.loop-e-test.true) }
+play_entry-run-requires c = record { can_play = c.loop-e.invariant.1; entry = omega (arith, c.requires.all_entries, c.loop-e-test.true) }
 
 pub overflow_add-e : goal.overflow_add-e
 overflow_add-e c = omega arith
@@ -31,4 +31,4 @@ pub shape_of-dropped : goal.shape_of-dropped
 shape_of-dropped c = c.loop-e.invariant.5
 
 pub returns : goal.returns
-returns c = let done : c.loop-e.e ≡ c.args.entries = omega arith in rw (done ∙ c.requires.entries_value) at c.loop-e.invariant.1.played
+returns c = let done : c.loop-e.e ≡ c.args.entries = omega arith in rw (done ∙ c.requires.all_entries) at c.loop-e.invariant.1.played

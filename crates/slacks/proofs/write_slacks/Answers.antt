@@ -16,7 +16,7 @@ use Rattle.star.proofs.LineLaws.{line_most}
 use Rattle.slacks.proofs.write_slacks.Goals as goal
 
 pub line_sums-requires : goal.line_sums-requires
-line_sums-requires c = record { square = c.requires.square.0; demands = c.requires.square.1; n_in_bounds = omega arith }
+line_sums-requires c = record { square = c.requires.square.0; demands = c.requires.square.1; room = omega arith }
 
 pub overflow_mul-lines : goal.overflow_mul-lines
 overflow_mul-lines c = omega arith

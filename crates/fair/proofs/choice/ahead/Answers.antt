@@ -17,7 +17,7 @@ pub bounds-b-line : goal.bounds-b-line
 bounds-b-line c = search rules
 
 pub overflow_add-a : goal.overflow_add-a
-overflow_add-a c = omega (arith, c.requires.comparable.most c.args.line c.requires.line_bound)
+overflow_add-a c = omega (arith, c.requires.comparable.most c.args.line c.requires.on_line)
 
 pub offset_bounds-cap-line : goal.offset_bounds-cap-line
 offset_bounds-cap-line c = search rules
@@ -26,13 +26,13 @@ pub bounds-cap-line : goal.bounds-cap-line
 bounds-cap-line c = search rules
 
 pub returns-then-a-line : goal.returns-then-a-line
-returns-then-a-line c = ahead_under _ _ _ _ _ _ c.requires.line_bound c.if-a-line.true
+returns-then-a-line c = ahead_under _ _ _ _ _ _ c.requires.on_line c.if-a-line.true
 
 pub overflow_mul-n : goal.overflow_mul-n
 overflow_mul-n c = search rules
 
 pub returns-then-found-n : goal.returns-then-found-n
-returns-then-found-n c = ahead_first _ _ _ _ _ _ c.requires.line_bound (omega arith) c.if-found-n.true
+returns-then-found-n c = ahead_first _ _ _ _ _ _ c.requires.on_line (omega arith) c.if-found-n.true
 
 pub offset_bounds-cap-line-2 : goal.offset_bounds-cap-line-2
 offset_bounds-cap-line-2 c = search rules
@@ -47,7 +47,7 @@ pub bounds-b-line-2 : goal.bounds-b-line-2
 bounds-b-line-2 c = search rules
 
 pub overflow_sub-result : goal.overflow_sub-result
-overflow_sub-result c = c.requires.comparable.within _ c.requires.line_bound
+overflow_sub-result c = c.requires.comparable.within _ c.requires.on_line
 
 pub offset_bounds-a-found : goal.offset_bounds-a-found
 offset_bounds-a-found c = search rules
@@ -56,7 +56,7 @@ pub bounds-a-found : goal.bounds-a-found
 bounds-a-found c = search rules
 
 pub overflow_mul-result : goal.overflow_mul-result
-overflow_mul-result c = omega (arith, product_fits _ _ _ _ c.requires.comparable c.args.line c.args.found c.requires.line_bound (omega arith))
+overflow_mul-result c = omega (arith, product_fits _ _ _ _ c.requires.comparable c.args.line c.args.found c.requires.on_line (omega arith))
 
 pub offset_bounds-cap-found : goal.offset_bounds-cap-found
 offset_bounds-cap-found c = search rules
@@ -80,7 +80,7 @@ pub bounds-a-line-2 : goal.bounds-a-line-2
 bounds-a-line-2 c = search rules
 
 pub overflow_mul-result-2 : goal.overflow_mul-result-2
-overflow_mul-result-2 c = omega (arith, product_fits _ _ _ _ c.requires.comparable c.args.found c.args.line (omega arith) c.requires.line_bound)
+overflow_mul-result-2 c = omega (arith, product_fits _ _ _ _ c.requires.comparable c.args.found c.args.line (omega arith) c.requires.on_line)
 
 pub returns : goal.returns
-returns c = ahead_smaller _ _ _ _ _ _ c.requires.line_bound (omega arith) (omega arith)
+returns c = ahead_smaller _ _ _ _ _ _ c.requires.on_line (omega arith) (omega arith)

@@ -13,7 +13,7 @@ copy-requires c = search rules
 
 pub line_sums-requires : goal.line_sums-requires
 line_sums-requires c = let asked = c.requires in
-    record { square = asked.square; demands = asked.demands; n_in_bounds = omega (arith, asked.square.nodes) }
+    record { square = asked.square; demands = asked.demands; room = omega (arith, asked.square.nodes) }
 
 pub cut_all-requires : goal.cut_all-requires
 cut_all-requires c = can_cut_all _ _ _ _ _ c.requires c.copy.ensures _ _ (omega (arith, c.line_sums.auto.sums)) c.line_sums.ensures refl

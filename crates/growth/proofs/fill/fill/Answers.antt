@@ -20,7 +20,7 @@ pub both-here-requires : goal.both-here-requires
 both-here-requires c = tt
 
 pub fill_some-left-requires : goal.fill_some-left-requires
-fill_some-left-requires c = record { sides = c.loop-j.invariant.5.sides; n_in_bounds = (omega (arith, c.requires.n_in_bounds, c.loop-j.invariant.1), c.loop-j-test.true) }
+fill_some-left-requires c = record { sides = c.loop-j.invariant.5.sides; room = (omega (arith, c.requires.room, c.loop-j.invariant.1), c.loop-j-test.true) }
 
 pub set_at-requires-in-loop-j : goal.set_at-requires-in-loop-j
 set_at-requires-in-loop-j c = omega (arith, c.loop-j-test, c.fill_some-left.ensures.sides.columns)
@@ -32,7 +32,7 @@ pub minus-rest-requires : goal.minus-rest-requires
 minus-rest-requires c = tt
 
 pub fill_some-left-requires-in-loop-j : goal.fill_some-left-requires-in-loop-j
-fill_some-left-requires-in-loop-j c = record { sides = c.fill_some-left.ensures.sides; n_in_bounds = (omega (arith, c.requires.n_in_bounds, c.loop-j.invariant.1, c.fill_some-left.auto.headroom), c.loop-j-test.true) }
+fill_some-left-requires-in-loop-j c = record { sides = c.fill_some-left.ensures.sides; room = (omega (arith, c.requires.room, c.loop-j.invariant.1, c.fill_some-left.auto.headroom), c.loop-j-test.true) }
 
 pub without-late-requires : goal.without-late-requires
 without-late-requires c = omega (arith, c.loop-j-test, c.requires.sides.below.cells.nodes)

@@ -4,13 +4,13 @@ use Rattle.growth.proofs.Giving.{less_some, less_none}
 use Rattle.growth.proofs.sides.less.Goals as goal
 
 pub get-requires : goal.get-requires
-get-requires c = record { square = c.requires.square.0; i_lt_n = (c.requires.can_less.row, c.requires.can_less.column) }
+get-requires c = record { square = c.requires.square.0; pair = (c.requires.can_less.row, c.requires.can_less.column) }
 
 pub overflow_sub-y : goal.overflow_sub-y
 overflow_sub-y c = omega (arith, c.get.ensures, c.requires.can_less.most)
 
 pub put-requires : goal.put-requires
-put-requires c = record { square = c.requires.square.0; i_lt_n = (c.requires.can_less.row, c.requires.can_less.column) }
+put-requires c = record { square = c.requires.square.0; pair = (c.requires.can_less.row, c.requires.can_less.column) }
 
 pub set_at-requires : goal.set_at-requires
 set_at-requires c = omega (arith, c.requires.square.1, c.requires.can_less.column)

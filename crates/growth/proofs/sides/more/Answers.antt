@@ -4,16 +4,16 @@ use Rattle.growth.proofs.Giving.{more_open, more_full}
 use Rattle.growth.proofs.sides.more.Goals as goal
 
 pub get-most-requires : goal.get-most-requires
-get-most-requires c = record { square = c.requires.sides.below.bounds; i_lt_n = (c.requires.can_more.row, c.requires.can_more.column) }
+get-most-requires c = record { square = c.requires.sides.below.bounds; pair = (c.requires.can_more.row, c.requires.can_more.column) }
 
 pub get-requires : goal.get-requires
-get-requires c = record { square = c.requires.sides.below.cells; i_lt_n = (c.requires.can_more.row, c.requires.can_more.column) }
+get-requires c = record { square = c.requires.sides.below.cells; pair = (c.requires.can_more.row, c.requires.can_more.column) }
 
 pub overflow_add-y : goal.overflow_add-y
 overflow_add-y c = omega (arith, c.get-most.ensures, c.get.ensures, c.requires.can_more.most)
 
 pub put-requires : goal.put-requires
-put-requires c = record { square = c.requires.sides.below.cells; i_lt_n = (c.requires.can_more.row, c.requires.can_more.column) }
+put-requires c = record { square = c.requires.sides.below.cells; pair = (c.requires.can_more.row, c.requires.can_more.column) }
 
 pub set_at-requires : goal.set_at-requires
 set_at-requires c = omega (arith, c.requires.sides.rows, c.requires.can_more.row)

@@ -6,7 +6,7 @@ pub loop-j-init : goal.loop-j-init
 loop-j-init c = omega arith
 
 pub padded-requires : goal.padded-requires
-padded-requires c = record { square = c.requires.0; i_lt_n = (c.requires.1, c.loop-j-test.true) }
+padded-requires c = record { square = c.requires.0; pair = (c.requires.1, c.loop-j-test.true) }
 
 pub larger-most-requires : goal.larger-most-requires
 larger-most-requires c = tt

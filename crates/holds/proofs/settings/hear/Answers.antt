@@ -10,10 +10,10 @@ pub byte-i-requires : goal.byte-i-requires
 byte-i-requires c = omega (arith, c.requires.sources)
 
 pub padded-padded-requires : goal.padded-padded-requires
-padded-padded-requires c = record { square = c.requires.table_room; i_lt_n = (omega (arith, c.byte-i.ensures.0, c.requires.full c.loop-j.j c.loop-j-test.true), c.loop-j-test.true) }
+padded-padded-requires c = record { square = c.requires.table_room; pair = (omega (arith, c.byte-i.ensures.0, c.requires.full c.loop-j.j c.loop-j-test.true), c.loop-j-test.true) }
 
 pub kept-kept-requires : goal.kept-kept-requires
-kept-kept-requires c = record { square = c.requires.table_room; i_lt_n = (omega (arith, c.byte-i.ensures.0, c.requires.full c.loop-j.j c.loop-j-test.true), c.loop-j-test.true) }
+kept-kept-requires c = record { square = c.requires.table_room; pair = (omega (arith, c.byte-i.ensures.0, c.requires.full c.loop-j.j c.loop-j-test.true), c.loop-j-test.true) }
 
 pub heard_of-requires : goal.heard_of-requires
 heard_of-requires c = tt

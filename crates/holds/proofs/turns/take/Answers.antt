@@ -10,10 +10,10 @@ pub byte-i-requires : goal.byte-i-requires
 byte-i-requires c = omega (arith, c.requires.standing.rooms.sources, c.loop-j.invariant.source_len)
 
 pub take-requires : goal.take-requires
-take-requires c = record { square = take_square c.requires c.loop-j.invariant c.loop-j-test.true c.byte-i.ensures.0; i_lt_n = (take_in c.requires c.loop-j.invariant c.loop-j-test.true c.byte-i.ensures.0, c.loop-j-test.true, take_enough c.requires c.loop-j.invariant c.loop-j-test.true c.byte-i.ensures.0) }
+take-requires c = record { square = take_square c.requires c.loop-j.invariant c.loop-j-test.true c.byte-i.ensures.0; pair = (take_in c.requires c.loop-j.invariant c.loop-j-test.true c.byte-i.ensures.0, c.loop-j-test.true, take_enough c.requires c.loop-j.invariant c.loop-j-test.true c.byte-i.ensures.0) }
 
 pub padded-requires : goal.padded-requires
-padded-requires c = record { square = take_square_2 c.requires c.loop-j.invariant c.loop-j-test.true c.byte-i.ensures.0 c.take.auto.table c.take.ensures; i_lt_n = (take_in c.requires c.loop-j.invariant c.loop-j-test.true c.byte-i.ensures.0, c.loop-j-test.true) }
+padded-requires c = record { square = take_square_2 c.requires c.loop-j.invariant c.loop-j-test.true c.byte-i.ensures.0 c.take.auto.table c.take.ensures; pair = (take_in c.requires c.loop-j.invariant c.loop-j-test.true c.byte-i.ensures.0, c.loop-j-test.true) }
 
 pub overflow_add-j : goal.overflow_add-j
 overflow_add-j c = omega (arith, c.requires.standing.rooms.nodes)

@@ -33,7 +33,7 @@ overflow_mul-part c = let args = c.args in
     omega (arith, ap (λ v. v * get_or args.cap.now args.line 0) c.on_line.ensures, part_most c.requires.line c.loop-t.t c.loop-t-test.true)
 
 pub nonzero_div-shares : goal.nonzero_div-shares
-nonzero_div-shares c = omega (arith, c.requires.sum_value)
+nonzero_div-shares c = omega (arith, c.requires.too_long)
 
 pub offset_bounds-shares-t : goal.offset_bounds-shares-t
 offset_bounds-shares-t c = omega arith
@@ -42,11 +42,11 @@ pub bounds-shares-t : goal.bounds-shares-t
 bounds-shares-t c = omega arith
 
 pub nonzero_rem-part : goal.nonzero_rem-part
-nonzero_rem-part c = omega (arith, c.requires.sum_value)
+nonzero_rem-part c = omega (arith, c.requires.too_long)
 
 pub claim-requires : goal.claim-requires
 claim-requires c = let pre = c.requires in
-    (remainder_fits _ _ (omega (arith, pre.sum_value)) (omega (arith, pre.sum_value.0, line_most _ _ _ pre.line.square.nodes pre.line.demands pre.line.line)), omega (arith, pre.line.square))
+    (remainder_fits _ _ (omega (arith, pre.too_long)) (omega (arith, pre.too_long.0, line_most _ _ _ pre.line.square.nodes pre.line.demands pre.line.line)), omega (arith, pre.line.square))
 
 pub offset_bounds-claims-t : goal.offset_bounds-claims-t
 offset_bounds-claims-t c = omega arith
@@ -55,13 +55,13 @@ pub bounds-claims-t : goal.bounds-claims-t
 bounds-claims-t c = omega arith
 
 pub nonzero_div-given : goal.nonzero_div-given
-nonzero_div-given c = omega (arith, c.requires.sum_value)
+nonzero_div-given c = omega (arith, c.requires.too_long)
 
 pub overflow_add-given : goal.overflow_add-given
 overflow_add-given c = let args = c.args in
     let pre = c.requires in
     let loop = c.loop-t in
-    omega (arith, pre.line.square, loop.invariant.6, shares_most pre.line loop.t (omega arith), share_is args.n args.cap.now args.table.now args.line loop.t c.on_line.ensures pre.sum_value.0, share_most pre.line loop.t c.loop-t-test.true)
+    omega (arith, pre.line.square, loop.invariant.6, shares_most pre.line loop.t (omega arith), share_is args.n args.cap.now args.table.now args.line loop.t c.on_line.ensures pre.too_long.0, share_most pre.line loop.t c.loop-t-test.true)
 
 pub overflow_add-t : goal.overflow_add-t
 overflow_add-t c = omega arith
@@ -73,7 +73,7 @@ pub loop-t-preserved : goal.loop-t-preserved
 loop-t-preserved c = let args = c.args in
     let loop = c.loop-t in
     let i = loop.invariant in
-    let sum = c.requires.sum_value.0 in
+    let sum = c.requires.too_long.0 in
     let part = share_is args.n args.cap.now args.table.now args.line loop.t c.on_line.ensures sum in
     let over = remainder_is args.n args.cap.now args.table.now args.line loop.t c.on_line.ensures sum in
     let claims = c.claim.ensures ∙ ap (λ r. claim r loop.t) over in
@@ -83,7 +83,7 @@ pub overflow_sub-result : goal.overflow_sub-result
 overflow_sub-result c = let args = c.args in
     let loop = c.loop-t in
     let done : loop.t ≡ args.n = omega arith in
-    omega (arith, sum_done _ done loop.invariant.6, shares_and_missing args.n args.cap.now args.table.now args.line (omega (arith, c.requires.sum_value)))
+    omega (arith, sum_done _ done loop.invariant.6, shares_and_missing args.n args.cap.now args.table.now args.line (omega (arith, c.requires.too_long)))
 
 pub shape_of-shares : goal.shape_of-shares
 shape_of-shares c = c.loop-t.invariant.2
@@ -99,5 +99,5 @@ returns c = let args = c.args in
     record {
       each = λ u h. ap (λ l. get_or l u 0) i.4 ∙ begun_at _ _ _ u (omega arith);
       claimed = λ u h. ap (λ l. get_or l u 0) i.5 ∙ begun_at (λ u. claim (remainder args.n args.cap.now args.table.now args.line u) u) _ _ u (omega arith);
-      lacks = omega (arith, sum_done _ done i.6, shares_and_missing args.n args.cap.now args.table.now args.line (omega (arith, c.requires.sum_value)));
+      lacks = omega (arith, sum_done _ done i.6, shares_and_missing args.n args.cap.now args.table.now args.line (omega (arith, c.requires.too_long)));
     }

@@ -23,7 +23,7 @@ pub rank-requires : goal.rank-requires
 rank-requires c = search rules
 
 pub gained-kept-requires : goal.gained-kept-requires
-gained-kept-requires c = c.requires.by_index c.loop-t.t c.loop-t-test.true
+gained-kept-requires c = c.requires.below c.loop-t.t c.loop-t-test.true
 
 pub put_on_line-requires : goal.put_on_line-requires
 put_on_line-requires c = search rules

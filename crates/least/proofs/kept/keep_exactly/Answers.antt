@@ -7,12 +7,12 @@ use Rattle.least.proofs.kept.keep_exactly.Goals as goal
 
 pub subtract-requires : goal.subtract-requires
 subtract-requires c = let pre = c.requires in
-    record { square = (pre.0.demand, pre.0.withdrawn); table_len = pre.1; by_index = withdrawn_below pre.0.greatest.withdrawn }
+    record { square = (pre.0.demand, pre.0.withdrawn); table_len = pre.1; below = withdrawn_below pre.0.greatest.withdrawn }
 
 pub line_sums-requires : goal.line_sums-requires
 line_sums-requires c = let pre = c.requires in
     let subtract = c.subtract in
-    record { square = left_square pre.0 subtract.ensures; demands = left_demands pre.0 subtract.ensures; n_in_bounds = omega (arith, pre.0.demand.nodes) }
+    record { square = left_square pre.0 subtract.ensures; demands = left_demands pre.0 subtract.ensures; room = omega (arith, pre.0.demand.nodes) }
 
 pub share_lines-requires : goal.share_lines-requires
 share_lines-requires c = let pre = c.requires in

@@ -7,12 +7,12 @@ use Rattle.least.proofs.kept.share_line.Goals as goal
 
 pub divide-missing-requires : goal.divide-missing-requires
 divide-missing-requires c = let pre = c.requires in
-    record { line = pre.line; n_in_bounds = (pre.line.square.nodes, pre.line.square.nodes); sum_value = pre.sum_value }
+    record { line = pre.line; room = (pre.line.square.nodes, pre.line.square.nodes); too_long = pre.too_long }
 
 pub give_shares-requires : goal.give_shares-requires
 give_shares-requires c = let pre = c.requires in
     let divide = c.divide-missing in
-    record { square = (pre.line.square, pre.line.line); n_in_bounds = (omega (arith, pre.line.square.nodes, divide.auto), omega (arith, pre.line.square.nodes, divide.auto)); by_index = λ t h. omega (arith, divide.ensures.each t h, share_most pre.line t h) }
+    record { square = (pre.line.square, pre.line.line); room = (omega (arith, pre.line.square.nodes, divide.auto), omega (arith, pre.line.square.nodes, divide.auto)); below = λ t h. omega (arith, divide.ensures.each t h, share_most pre.line t h) }
 
 pub shape_of-table : goal.shape_of-table
 shape_of-table c = search rules

@@ -40,7 +40,7 @@ share_line-requires c = let pre = c.requires in
         capacities = pre.capacities;
         line = omega arith;
       };
-      sum_value = (still loop.invariant.3 _ pre.summed pre.apart (omega arith) c.if-sums-line.true, c.if-sums-line.true);
+      too_long = (still loop.invariant.3 _ pre.summed pre.apart (omega arith) c.if-sums-line.true, c.if-sums-line.true);
     }
 
 pub overflow_add-line : goal.overflow_add-line

@@ -29,7 +29,7 @@ pub bounds-withdrawn-p : goal.bounds-withdrawn-p
 bounds-withdrawn-p c = omega arith
 
 pub overflow_sub-table : goal.overflow_sub-table
-overflow_sub-table c = c.requires.by_index c.loop-p.p (omega arith)
+overflow_sub-table c = c.requires.below c.loop-p.p (omega arith)
 
 pub offset_bounds-table-p : goal.offset_bounds-table-p
 offset_bounds-table-p c = omega arith

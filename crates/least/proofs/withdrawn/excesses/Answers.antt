@@ -14,7 +14,7 @@ use Rattle.least.proofs.Withdrawals.{next_most, excess_next, excess_all}
 use Rattle.least.proofs.withdrawn.excesses.Goals as goal
 
 pub line_sums-requires : goal.line_sums-requires
-line_sums-requires c = record { square = c.requires.square.0; demands = c.requires.square.1; n_in_bounds = c.requires.capacities.1 }
+line_sums-requires c = record { square = c.requires.square.0; demands = c.requires.square.1; room = c.requires.capacities.1 }
 
 pub overflow_mul-lines : goal.overflow_mul-lines
 overflow_mul-lines c = omega (arith, c.requires.square.0.nodes)

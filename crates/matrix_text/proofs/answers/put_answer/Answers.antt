@@ -9,7 +9,7 @@ pub put_refused-requires : goal.put_refused-requires
 put_refused-requires c = search rules
 
 pub put_plan-requires : goal.put_plan-requires
-put_plan-requires c = record { square = c.requires.printable.square (ap verdict_of c.in-Planned.is); longest_text_in_bounds = c.requires.longest_text_in_bounds }
+put_plan-requires c = record { square = c.requires.printable.square (ap verdict_of c.in-Planned.is); room = c.requires.room }
 
 pub put_bad_input-requires : goal.put_bad_input-requires
 put_bad_input-requires c = search rules

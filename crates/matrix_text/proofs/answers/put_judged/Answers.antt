@@ -57,7 +57,7 @@ pub slice_bounds-put_answer-end : goal.slice_bounds-put_answer-end
 slice_bounds-put_answer-end c = search rules
 
 pub put_answer-requires : goal.put_answer-requires
-put_answer-requires c = record { longest_text_in_bounds = c.requires.0; printable = printable _ c.plan-answer.ensures }
+put_answer-requires c = record { room = c.requires.0; printable = printable _ c.plan-answer.ensures }
 
 pub shape_of-out : goal.shape_of-out
 shape_of-out c = search rules

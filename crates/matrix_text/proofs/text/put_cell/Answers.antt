@@ -14,7 +14,7 @@ mark_after-requires c = search rules
 
 pub put_marked-requires : goal.put_marked-requires
 unfolding cell_text
-put_marked-requires c = rw (c.get.ensures, c.mark_after.ensures) c.requires.j_in_bounds
+put_marked-requires c = rw (c.get.ensures, c.mark_after.ensures) c.requires.fits
 
 pub shape_of-out : goal.shape_of-out
 shape_of-out c = c.put_marked.auto.out

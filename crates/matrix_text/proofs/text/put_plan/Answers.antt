@@ -23,7 +23,7 @@ pub put_rows-requires : goal.put_rows-requires
 unfolding plan_text
 put_rows-requires c =
     let fits = plan_fits c.args.nodes c.args.kept.now (λ p. omega (arith, c.type_inv.kept p)) c.args.slots c.args.rule c.args.keeps c.args.refuses (omega arith) (omega arith) (omega arith) (omega arith) (omega arith) in
-    record { square = c.requires.square; kept_in_bounds = omega (arith, simp length-append at fits, c.put_head-after_head.ensures.end, c.put_head-after_head.auto.out, c.put_totals-after_totals.ensures.end, c.put_totals-after_totals.auto.out) }
+    record { square = c.requires.square; fits = omega (arith, simp length-append at fits, c.put_head-after_head.ensures.end, c.put_head-after_head.auto.out, c.put_totals-after_totals.ensures.end, c.put_totals-after_totals.auto.out) }
 
 pub shape_of-out : goal.shape_of-out
 shape_of-out c = c.put_rows.auto.out ∙ c.put_totals-after_totals.auto.out ∙ c.put_head-after_head.auto.out

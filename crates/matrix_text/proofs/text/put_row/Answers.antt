@@ -10,7 +10,7 @@ loop-j-init c = (omega arith, refl, rw (join_none (cell_text c.args.n c.args.kep
 
 pub put_cell-next-requires : goal.put_cell-next-requires
 unfolding row_text
-put_cell-next-requires c = record { square = (c.requires.square.0, c.requires.square.1, c.loop-j-test.true); j_in_bounds = omega (arith, c.requires.i_in_bounds, c.loop-j.invariant.1, c.loop-j.invariant.2.end, join_part (cell_text c.args.n c.args.kept.now c.args.i) c.loop-j.j c.args.n c.loop-j-test.true) }
+put_cell-next-requires c = record { square = (c.requires.square.0, c.requires.square.1, c.loop-j-test.true); fits = omega (arith, c.requires.fits, c.loop-j.invariant.1, c.loop-j.invariant.2.end, join_part (cell_text c.args.n c.args.kept.now c.args.i) c.loop-j.j c.args.n c.loop-j-test.true) }
 
 pub overflow_add-j : goal.overflow_add-j
 overflow_add-j c = omega arith
@@ -20,7 +20,7 @@ loop-j-smaller c = omega arith
 
 pub loop-j-preserved : goal.loop-j-preserved
 unfolding row_text
-loop-j-preserved c = (omega arith, c.put_cell-next.auto.out ∙ c.loop-j.invariant.1, rw (join_more (cell_text c.args.n c.args.kept.now c.args.i)) (appended_more (omega (arith, c.requires.i_in_bounds, join_part (cell_text c.args.n c.args.kept.now c.args.i) c.loop-j.j c.args.n c.loop-j-test.true)) c.loop-j.invariant.2 c.put_cell-next.ensures))
+loop-j-preserved c = (omega arith, c.put_cell-next.auto.out ∙ c.loop-j.invariant.1, rw (join_more (cell_text c.args.n c.args.kept.now c.args.i)) (appended_more (omega (arith, c.requires.fits, join_part (cell_text c.args.n c.args.kept.now c.args.i) c.loop-j.j c.args.n c.loop-j-test.true)) c.loop-j.invariant.2 c.put_cell-next.ensures))
 
 pub shape_of-out : goal.shape_of-out
 shape_of-out c = c.loop-j.invariant.1

@@ -10,7 +10,7 @@ loop-i-init c = (omega arith, refl, rw (join_none (row_text c.args.n c.args.kept
 
 pub put_row-next-requires : goal.put_row-next-requires
 unfolding rows_text
-put_row-next-requires c = record { square = (c.requires.square, c.loop-i-test.true); i_in_bounds = omega (arith, c.requires.kept_in_bounds, c.loop-i.invariant.1, c.loop-i.invariant.2.end, join_part (row_text c.args.n c.args.kept.now) c.loop-i.i c.args.n c.loop-i-test.true) }
+put_row-next-requires c = record { square = (c.requires.square, c.loop-i-test.true); fits = omega (arith, c.requires.fits, c.loop-i.invariant.1, c.loop-i.invariant.2.end, join_part (row_text c.args.n c.args.kept.now) c.loop-i.i c.args.n c.loop-i-test.true) }
 
 pub overflow_add-i : goal.overflow_add-i
 overflow_add-i c = omega arith
@@ -20,7 +20,7 @@ loop-i-smaller c = omega arith
 
 pub loop-i-preserved : goal.loop-i-preserved
 unfolding rows_text
-loop-i-preserved c = (omega arith, c.put_row-next.auto.out ∙ c.loop-i.invariant.1, rw (join_more (row_text c.args.n c.args.kept.now)) (appended_more (omega (arith, c.requires.kept_in_bounds, join_part (row_text c.args.n c.args.kept.now) c.loop-i.i c.args.n c.loop-i-test.true)) c.loop-i.invariant.2 c.put_row-next.ensures))
+loop-i-preserved c = (omega arith, c.put_row-next.auto.out ∙ c.loop-i.invariant.1, rw (join_more (row_text c.args.n c.args.kept.now)) (appended_more (omega (arith, c.requires.fits, join_part (row_text c.args.n c.args.kept.now) c.loop-i.i c.args.n c.loop-i-test.true)) c.loop-i.invariant.2 c.put_row-next.ensures))
 
 pub shape_of-out : goal.shape_of-out
 shape_of-out c = c.loop-i.invariant.1

@@ -35,7 +35,7 @@ pub slice_bounds-put_lines-end-4 : goal.slice_bounds-put_lines-end-4
 slice_bounds-put_lines-end-4 c = search rules
 
 pub put_lines-requires : goal.put_lines-requires
-put_lines-requires c = let r = (accepted_sound c.args.file.now c.requires.1).ranges in record { le_n = (omega (arith, r.sizes.some_nodes, c.requires.2), omega (arith, r.sizes.nodes, c.requires.2), c.requires.0); large_tables = record { queues = omega (arith, c.play.auto.waiting, length-replicate {A = ℕ} 4096 0); postings = omega (arith, c.play.auto.posted, length-replicate {A = ℕ} 4096 0); sendings = omega (arith, c.play.auto.sent, length-replicate {A = ℕ} 4096 0); drops = omega (arith, c.play.auto.dropped, length-replicate {A = ℕ} 4096 0) } }
+put_lines-requires c = let r = (accepted_sound c.args.file.now c.requires.1).ranges in record { numbers = (omega (arith, r.sizes.some_nodes, c.requires.2), omega (arith, r.sizes.nodes, c.requires.2), c.requires.0); large_tables = record { queues = omega (arith, c.play.auto.waiting, length-replicate {A = ℕ} 4096 0); postings = omega (arith, c.play.auto.posted, length-replicate {A = ℕ} 4096 0); sendings = omega (arith, c.play.auto.sent, length-replicate {A = ℕ} 4096 0); drops = omega (arith, c.play.auto.dropped, length-replicate {A = ℕ} 4096 0) } }
 
 pub shape_of-out : goal.shape_of-out
 shape_of-out c = search rules

@@ -11,7 +11,7 @@ pub slice_bounds-place_exactly-end : goal.slice_bounds-place_exactly-end
 slice_bounds-place_exactly-end c = search rules
 
 pub place_exactly-requires : goal.place_exactly-requires
-place_exactly-requires c = record { can_place = front_can c.requires; kept_len = length-take-le _ _ c.requires.square.cells }
+place_exactly-requires c = record { can_place = front_can c.requires; exact = length-take-le _ _ c.requires.square.cells }
 
 pub shape_of-kept : goal.shape_of-kept
 shape_of-kept c = search rules

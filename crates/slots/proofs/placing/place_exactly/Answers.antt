@@ -29,4 +29,4 @@ pub shape_of-schedule : goal.shape_of-schedule
 shape_of-schedule c = search rules
 
 pub returns : goal.returns
-returns c = place_end c.requires.can_place c.pad-r.ensures c.requires.kept_len (c.settle-changes.auto.table ∙ c.pad-r.auto.table) c.settle-changes.ensures c.rest.ensures
+returns c = place_end c.requires.can_place c.pad-r.ensures c.requires.exact (c.settle-changes.auto.table ∙ c.pad-r.auto.table) c.settle-changes.ensures c.rest.ensures

@@ -26,7 +26,7 @@ pub overflow_add-to : goal.overflow_add-to
 overflow_add-to c = omega (arith, c.next-turn.ensures.next.within, c.requires.settle.frame.slots)
 
 pub extend-changes-requires : goal.extend-changes-requires
-extend-changes-requires c = record { frame = round_frame c.requires.settle c.loop-t.invariant (omega (arith, c.next-turn.ensures.next.within)); n_in_bounds = (omega (arith, c.requires.outs, c.loop-t.invariant.bytes_len, c.next-turn.auto.bytes), omega (arith, c.next-turn.ensures.next.some)) }
+extend-changes-requires c = record { frame = round_frame c.requires.settle c.loop-t.invariant (omega (arith, c.next-turn.ensures.next.within)); room = (omega (arith, c.requires.outs, c.loop-t.invariant.bytes_len, c.next-turn.auto.bytes), omega (arith, c.next-turn.ensures.next.some)) }
 
 pub overflow_add-changes : goal.overflow_add-changes
 overflow_add-changes c = omega (arith, c.extend-changes.ensures.most, round_few c.requires.settle c.loop-t.invariant, c.requires.settle.frame.slots)

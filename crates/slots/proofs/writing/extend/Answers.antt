@@ -6,7 +6,7 @@ use Rattle.slots.proofs.WriteLaws.{extended}
 use Rattle.slots.proofs.writing.extend.Goals as goal
 
 pub change-more-requires : goal.change-more-requires
-change-more-requires c = (frame_less c.requires.frame (omega (arith, c.requires.n_in_bounds.1)), c.requires.n_in_bounds.0)
+change-more-requires c = (frame_less c.requires.frame (omega (arith, c.requires.room.1)), c.requires.room.0)
 
 pub write_slots-requires : goal.write_slots-requires
 write_slots-requires c = search rules
@@ -15,4 +15,4 @@ pub shape_of-schedule : goal.shape_of-schedule
 shape_of-schedule c = search rules
 
 pub returns : goal.returns
-returns c = extended c.requires.n_in_bounds.1 c.change-more.ensures c.write_slots.ensures
+returns c = extended c.requires.room.1 c.change-more.ensures c.write_slots.ensures

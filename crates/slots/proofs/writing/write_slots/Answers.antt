@@ -5,10 +5,10 @@ use Rattle.slots.proofs.WriteLaws.{fill_start, fill_step, fill_end}
 use Rattle.slots.proofs.writing.write_slots.Goals as goal
 
 pub loop-k-init : goal.loop-k-init
-loop-k-init c = fill_start _ _ _ _ _ c.requires.n_in_bounds.1
+loop-k-init c = fill_start _ _ _ _ _ c.requires.room.1
 
 pub write_slot-requires : goal.write_slot-requires
-write_slot-requires c = (c.requires.frame.nodes, frame_slot (frame_kept c.args.schedule.now _ c.loop-k.invariant.len c.requires.frame) c.loop-k-test.true, c.requires.n_in_bounds.0)
+write_slot-requires c = (c.requires.frame.nodes, frame_slot (frame_kept c.args.schedule.now _ c.loop-k.invariant.len c.requires.frame) c.loop-k-test.true, c.requires.room.0)
 
 pub overflow_add-k : goal.overflow_add-k
 overflow_add-k c = omega (arith, c.requires.frame.slots)

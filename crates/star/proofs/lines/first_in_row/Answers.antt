@@ -10,7 +10,7 @@ pub loop-j-init : goal.loop-j-init
 loop-j-init c = (omega (arith, c.requires.1), λ v h. absurd (omega arith))
 
 pub get-requires : goal.get-requires
-get-requires c = record { square = c.requires.0; i_lt_n = (c.requires.1, c.loop-j.invariant.0) }
+get-requires c = record { square = c.requires.0; pair = (c.requires.1, c.loop-j.invariant.0) }
 
 pub overflow_add-j : goal.overflow_add-j
 overflow_add-j c = omega (arith, c.requires.0.nodes)

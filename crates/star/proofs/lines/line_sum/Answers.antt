@@ -14,7 +14,7 @@ pub on_line-sum-requires : goal.on_line-sum-requires
 on_line-sum-requires c = search rules
 
 pub overflow_add-sum : goal.overflow_add-sum
-overflow_add-sum c = omega (arith, c.on_line-sum.ensures, on_line_most _ _ _ _ c.requires.demands c.requires.line_bound c.loop-t-test.true)
+overflow_add-sum c = omega (arith, c.on_line-sum.ensures, on_line_most _ _ _ _ c.requires.demands c.requires.on_line c.loop-t-test.true)
 
 pub overflow_add-t : goal.overflow_add-t
 overflow_add-t c = omega arith
@@ -23,7 +23,7 @@ pub loop-t-smaller : goal.loop-t-smaller
 loop-t-smaller c = omega arith
 
 pub loop-t-preserved : goal.loop-t-preserved
-loop-t-preserved c = (omega arith, omega (arith, c.loop-t.invariant.1, c.on_line-sum.ensures, sum_more c.loop-t.t (λ u. on_line c.args.n c.args.demand.now c.args.line u)), omega (arith, c.on_line-sum.ensures, on_line_most _ _ _ _ c.requires.demands c.requires.line_bound c.loop-t-test.true))
+loop-t-preserved c = (omega arith, omega (arith, c.loop-t.invariant.1, c.on_line-sum.ensures, sum_more c.loop-t.t (λ u. on_line c.args.n c.args.demand.now c.args.line u)), omega (arith, c.on_line-sum.ensures, on_line_most _ _ _ _ c.requires.demands c.requires.on_line c.loop-t-test.true))
 
 pub returns : goal.returns
 unfolding line_sum

@@ -12,7 +12,7 @@ pub loop-j-init : goal.loop-j-init
 loop-j-init c = (omega arith, sym (above_none _ _ _))
 
 pub get-requires : goal.get-requires
-get-requires c = record { square = c.requires.0; i_lt_n = (c.requires.1, c.loop-j-test.true) }
+get-requires c = record { square = c.requires.0; pair = (c.requires.1, c.loop-j-test.true) }
 
 pub above-count-requires : goal.above-count-requires
 above-count-requires c = tt

@@ -5,16 +5,16 @@ use borrow.Author.Rules.{rules}
 use Rattle.star.proofs.tables.put.Goals as goal
 
 pub overflow_mul-table : goal.overflow_mul-table
-overflow_mul-table c = omega (arith, digits_lt c.requires.i_lt_n.0 c.requires.i_lt_n.1)
+overflow_mul-table c = omega (arith, digits_lt c.requires.pair.0 c.requires.pair.1)
 
 pub overflow_add-table : goal.overflow_add-table
-overflow_add-table c = omega (arith, digits_lt c.requires.i_lt_n.0 c.requires.i_lt_n.1)
+overflow_add-table c = omega (arith, digits_lt c.requires.pair.0 c.requires.pair.1)
 
 pub offset_bounds-table-i : goal.offset_bounds-table-i
-offset_bounds-table-i c = omega (arith, digits_lt c.requires.i_lt_n.0 c.requires.i_lt_n.1)
+offset_bounds-table-i c = omega (arith, digits_lt c.requires.pair.0 c.requires.pair.1)
 
 pub bounds-table-i : goal.bounds-table-i
-bounds-table-i c = omega (arith, digits_lt c.requires.i_lt_n.0 c.requires.i_lt_n.1)
+bounds-table-i c = omega (arith, digits_lt c.requires.pair.0 c.requires.pair.1)
 
 pub shape_of-table : goal.shape_of-table
 shape_of-table c = search rules

@@ -23,10 +23,10 @@ pub byte-j-requires : goal.byte-j-requires
 byte-j-requires c = omega (arith, c.requires.tos, c.loop-k.invariant.upto)
 
 pub get-requires : goal.get-requires
-get-requires c = record { square = c.requires.below.bounds; i_lt_n = (omega (arith, c.byte-i.ensures.0, c.requires.path.row c.loop-k.k c.loop-k.invariant.upto), omega (arith, c.byte-j.ensures.0, c.requires.path.column c.loop-k.k c.loop-k.invariant.upto)) }
+get-requires c = record { square = c.requires.below.bounds; pair = (omega (arith, c.byte-i.ensures.0, c.requires.path.row c.loop-k.k c.loop-k.invariant.upto), omega (arith, c.byte-j.ensures.0, c.requires.path.column c.loop-k.k c.loop-k.invariant.upto)) }
 
 pub get-requires-in-loop-k : goal.get-requires-in-loop-k
-get-requires-in-loop-k c = record { square = c.requires.below.cells; i_lt_n = (omega (arith, c.byte-i.ensures.0, c.requires.path.row c.loop-k.k c.loop-k.invariant.upto), omega (arith, c.byte-j.ensures.0, c.requires.path.column c.loop-k.k c.loop-k.invariant.upto)) }
+get-requires-in-loop-k c = record { square = c.requires.below.cells; pair = (omega (arith, c.byte-i.ensures.0, c.requires.path.row c.loop-k.k c.loop-k.invariant.upto), omega (arith, c.byte-j.ensures.0, c.requires.path.column c.loop-k.k c.loop-k.invariant.upto)) }
 
 pub overflow_sub-get : goal.overflow_sub-get
 overflow_sub-get c = rw (c.get.ensures, c.get-in-loop-k.ensures, c.byte-i.ensures.0, c.byte-j.ensures.0) (omega (arith, c.requires.passes.more c.loop-k.k c.loop-k.invariant.upto))
@@ -53,7 +53,7 @@ pub byte-requires : goal.byte-requires
 byte-requires c = omega (arith, c.requires.tos, c.loop-k.invariant.upto)
 
 pub get-requires-in-loop-k-2 : goal.get-requires-in-loop-k-2
-get-requires-in-loop-k-2 c = record { square = c.requires.below.cells; i_lt_n = (omega (arith, c.byte-i.ensures.0, c.requires.path.row c.loop-k.k c.loop-k.invariant.upto), omega (arith, c.byte.ensures.0, c.requires.path.column (c.loop-k.k - 1) (omega (arith, c.loop-k.invariant.upto)))) }
+get-requires-in-loop-k-2 c = record { square = c.requires.below.cells; pair = (omega (arith, c.byte-i.ensures.0, c.requires.path.row c.loop-k.k c.loop-k.invariant.upto), omega (arith, c.byte.ensures.0, c.requires.path.column (c.loop-k.k - 1) (omega (arith, c.loop-k.invariant.upto)))) }
 
 pub smaller-x-requires-in-loop-k : goal.smaller-x-requires-in-loop-k
 smaller-x-requires-in-loop-k c = tt
