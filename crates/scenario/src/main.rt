@@ -14,7 +14,7 @@ use streams::{read_full, write_full};
 fn answer_input<R: Read, W: Write>(reader: &mut R, writer: &mut W) -> io::Result<()>
     ensures ok { OnOk result (AnswersInput 65537 PrintsFile
         (R.remaining reader.old) (R.remaining reader.new) (W.contents writer.old) (W.contents writer.new)) }
-    ensures err { OnErr result (AnswersPartly PrintsFile
+    ensures err { OnErr result (AnswersPartly 65537 PrintsFile
         (R.remaining reader.old) (R.remaining reader.new) (W.contents writer.old) (W.contents writer.new)) }
 {
     // one byte more than an input may have, so that a longer one is seen
