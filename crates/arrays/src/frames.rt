@@ -4,6 +4,7 @@ ghost use Rattle.sums.specs.Tables.{cell};
 ghost use Rattle.arrays.specs.Arrays.{Slot};
 
 // What destination j hears in slot k.
+#[tactic(auto, unfolding(sums::specs::Tables::cell))]
 pub fn heard(n: usize, schedule: &[u8], k: usize, j: usize) -> u8
     requires { (Slot n schedule.now k) × (j < n) }
     ensures { result ≡ cell n schedule.now k j }

@@ -1,4 +1,5 @@
-// Lists: of bytes, which stand for nodes, and of sets of nodes.
+// Lists: of bytes, which stand for nodes, and of sets of nodes. Not one generic pair of functions for both: a byte is read as an index, and a node is
+// narrowed to a byte, where a set stays what it is.
 ghost use Rattle.std.specs.Prelude.{◌≡◌, ◌<◌, ◌≤◌, length, get_or, set};
 ghost use Rattle.arrays.specs.Arrays.{Filled};
 
@@ -7,7 +8,7 @@ pub fn byte(x: &[u8], k: usize) -> usize
     requires { k < length x.now }
     ensures { (result ≡ get_or x.now k 0) × (result < 256) }
 {
-    x[k] as usize
+    usize::from(x[k])
 }
 
 // The byte at k is b from now on.
@@ -23,11 +24,7 @@ pub fn fill(x: &mut [u8], n: usize, b: usize)
     requires { (n ≤ length x.old) × (b < 256) }
     ensures { Filled n x.new b }
 {
-    let mut k = 0;
-    while k < n {
-        put_byte(x, k, b);
-        k += 1;
-    }
+    x[..n].fill(b as u8);
 }
 
 // The set at k.

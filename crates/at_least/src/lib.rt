@@ -13,11 +13,9 @@ fn add_row(n: usize, table: &[u32], threshold: u32, half: &mut [u32], i: usize, 
     requires { (Square n table.now) × (n ≤ length half.old) × (i < n) × (bit < 32) }
     ensures { RowAdded n table.now threshold half.old half.new i bit n }
 {
-    let mut j = 0;
-    while j < n {
+    for j in 0..n {
         let enough = get(n, table, i, j) >= threshold;
         half[j] = nodes::half_with_where(half[j], bit, enough);
-        j += 1;
     }
 }
 
@@ -26,10 +24,8 @@ fn add_rows(n: usize, table: &[u32], threshold: u32, half: &mut [u32], from: usi
     requires { (Square n table.now) × (CanAdd n half.old from to) }
     ensures { RowsAdded n table.now threshold half.new from to }
 {
-    let mut i = from;
-    while i < to {
+    for i in from..to {
         add_row(n, table, threshold, half, i, i - from);
-        i += 1;
     }
 }
 
@@ -38,10 +34,8 @@ fn join(n: usize, low: &[u32], high: &[u32], sets: &mut [u64])
     requires { (n ≤ length low.now) × (n ≤ length high.now) × (n ≤ length sets.old) }
     ensures { HalvesJoined low.now high.now sets.new n }
 {
-    let mut j = 0;
-    while j < n {
+    for j in 0..n {
         sets[j] = nodes::joined(low[j], high[j]);
-        j += 1;
     }
 }
 
@@ -50,7 +44,7 @@ pub fn rows(n: usize, table: &[u32], threshold: u32, sets: &mut [u64])
     requires { (Square n table.now) × (n ≤ length sets.old) }
     ensures { AtLeast n table.now threshold sets.new }
 {
-    let middle = if n < 32 { n } else { 32 };
+    let middle = n.min(32);
     let mut low = [0u32; 64];
     let mut high = [0u32; 64];
     add_rows(n, table, threshold, &mut low, 0, middle);

@@ -6,20 +6,12 @@ use mathlib.Core.Bool.{Bool, true, false, ◌&&◌, not}
 use mathlib.Core.List.{List}
 use lib.ListN.{get_or}
 use lib.Dec.{leb}
-use borrow.Author.Tests.{le-leb, lt-leb, leb-true, eq-eqb, ne_eqb, eqb-true, not-false}
+use borrow.Author.Tests.{le-leb, leb-true, eq-eqb, eqb-true, not-false}
 use Rattle.sums.proofs.Searches.{first_before, first_none}
 use Rattle.books.specs.Books.{agree, books_agree, first_disagreeing}
 
 module _ (limit posts waiting posted sent dropped : ℕ) where
-  -- more waits than the limit
-  pub too_long : limit < waiting → agree limit posts waiting posted sent dropped ≡ false
-  too_long h = simp (lt-leb waiting limit h)
-
-  -- the amounts do not add up
-  pub unbalanced : waiting ≤ limit → (posted ≡ waiting + sent + dropped → ⊥) → agree limit posts waiting posted sent dropped ≡ false
-  unbalanced h ne = simp (le-leb waiting limit h, ne_eqb posted (waiting + sent + dropped) ne)
-
-  -- they do, and it is left to compare posted with what can have been posted
+  -- the amounts add up, and it is left to compare posted with what can have been posted
   pub balanced : waiting ≤ limit → posted ≡ waiting + sent + dropped → agree limit posts waiting posted sent dropped ≡ leb posted (65535 * posts)
   balanced h e = simp (le-leb waiting limit h, eq-eqb posted (waiting + sent + dropped) e)
 

@@ -1,82 +1,57 @@
 // Whether the books of a pair agree, and the first pair whose books disagree.
-ghost use Rattle.std.specs.Prelude.{◌≡◌, ◌+◌, ◌*◌, ◌<◌};
+ghost use Rattle.std.specs.Prelude.{◌≡◌, ◌*◌, ◌<◌, length};
+ghost use Rattle.sums.specs.Searches.{found};
 ghost use Rattle.books.specs.Books.{agree, books_agree, first_disagreeing};
 ghost use Rattle.books.specs.Rooms.{Tables};
 
-use crate::amounts::amount;
-use star::tables::get;
+// The four tables of a run, lent to be read.
+#[derive(Clone, Copy)]
+pub struct Books<'a> {
+    pub waiting: &'a [u32],
+    pub posted: &'a [u64],
+    pub sent: &'a [u64],
+    pub dropped: &'a [u64],
+}
 
 // Whether the books of a pair agree. Posted is taken apart, so that no sum is made that could wrap.
 fn agrees(limit: u32, posts: u32, waiting: u32, posted: u64, sent: u64, dropped: u64) -> bool
     ensures { result ≡ agree limit posts waiting posted sent dropped }
 {
-    if waiting > limit {
-        return false;
-    }
-    if sent > posted {
+    if waiting > limit || sent > posted {
         return false;
     }
     let unsent = posted - sent;
-    if dropped > unsent {
-        return false;
-    }
-    if waiting as u64 != unsent - dropped {
-        return false;
-    }
-    posted <= 65535 * posts as u64
+    dropped <= unsent
+        && u64::from(waiting) == unsent - dropped
+        && posted <= 65535 * u64::from(posts)
 }
 
-// Whether the books of the pair of source i and destination j agree.
-fn agree_at(
-    n: usize,
-    limit: u32,
-    posts: u32,
-    waiting: &[u32],
-    posted: &[u64],
-    sent: &[u64],
-    dropped: &[u64],
-    i: usize,
-    j: usize,
-) -> bool
-    requires tables { Tables n waiting.now posted.now sent.now dropped.now }
-    requires pair { (i < n) × (j < n) }
-    ensures { result ≡ books_agree limit posts waiting.now posted.now sent.now dropped.now (i * n + j) }
-{
-    agrees(
-        limit,
-        posts,
-        get(n, waiting, i, j),
-        amount(n, posted, i, j),
-        amount(n, sent, i, j),
-        amount(n, dropped, i, j),
-    )
-}
+impl Books<'_> {
+    // Whether the books of the pair at cell p agree.
+    fn agree_at(&self, limit: u32, posts: u32, p: usize) -> bool
+        requires { (p < length self.now.waiting.now) × (p < length self.now.posted.now) × (p < length self.now.sent.now) × (p < length self.now.dropped.now) }
+        ensures { result ≡ books_agree limit posts self.now.waiting.now self.now.posted.now self.now.sent.now self.now.dropped.now p }
+    {
+        agrees(
+            limit,
+            posts,
+            self.waiting[p],
+            self.posted[p],
+            self.sent[p],
+            self.dropped[p],
+        )
+    }
 
-// The first pair in row order whose books disagree, or n * n.
-pub fn first_disagreeing(
-    n: usize,
-    limit: u32,
-    posts: u32,
-    waiting: &[u32],
-    posted: &[u64],
-    sent: &[u64],
-    dropped: &[u64],
-) -> usize
-    requires { Tables n waiting.now posted.now sent.now dropped.now }
-    ensures { result ≡ first_disagreeing n limit posts waiting.now posted.now sent.now dropped.now }
-{
-    let mut found = n * n;
-    let mut i = 0;
-    'rows: while i < n {
-        let mut j = 0;
-        while j < n {
-            if !agree_at(n, limit, posts, waiting, posted, sent, dropped, i, j) {
-                found = i * n + j;
-                break 'rows;
+    // The first pair in row order whose books disagree, if one's do.
+    pub fn first_disagreeing(&self, n: usize, limit: u32, posts: u32) -> Option<usize>
+        requires { Tables n self.now.waiting.now self.now.posted.now self.now.sent.now self.now.dropped.now }
+        ensures { result ≡ found (n * n) (first_disagreeing n limit posts self.now.waiting.now self.now.posted.now self.now.sent.now self.now.dropped.now) }
+    {
+        for p in 0..n * n {
+            if !self.agree_at(limit, posts, p) {
+                return Some(p);
             }
-            j += 1;
         }
-        i += 1;
+        None
     }
-    found
 }

@@ -6,8 +6,7 @@ use mathlib.Core.List.{List, [], ◌∷◌}
 use Rattle.sums.specs.Searches.{first_below, first_from}
 use Rattle.sums.specs.Tables.{tab, written}
 use Rattle.star.specs.declared.refusals.Refusal.TheVariants.{Rule}
-use Rattle.star.specs.declared.refusals.Verdict.TheVariants.{Accepted, Refused}
-use Rattle.star.specs.Refusals.{Notice, notice, notice_of, first_above}
+use Rattle.star.specs.Refusals.{Accepted, Refused, Notice, notice, notice_of, first_above}
 use Rattle.star.specs.Checks.{sizes_verdict, rule_verdict, rule_and_limit_verdict, ranges_verdict, demand_short_verdict, demand_above_verdict, refuse, then}
 use Rattle.planner.specs.Checks.{lent_short_verdict}
 use Rattle.books.specs.Books.{books_agree, first_disagreeing}

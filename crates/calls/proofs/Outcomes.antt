@@ -6,15 +6,13 @@ use mathlib.Core.Path.{◌≡◌, refl, sym, ◌∙◌, ap, subst}
 use mathlib.Core.List.{List}
 use lib.ListN.{length, get_or}
 use Rattle.star.specs.declared.refusals.Refusal.{Refusal}
-use Rattle.star.specs.declared.refusals.Verdict.{Verdict}
-use Rattle.star.specs.declared.refusals.Verdict.TheVariants.{Accepted, Refused}
+use Rattle.star.specs.Refusals.{Verdict, Accepted, Refused, verdict_of}
 use Rattle.star.specs.Lines.{whole_frame}
 use Rattle.star.specs.Rooms.{Square}
 use Rattle.star.proofs.RefusalLaws.{promise_refused, promise_done}
 use Rattle.planner.specs.declared.answers.Report.{Report}
-use Rattle.planner.specs.declared.answers.Answer.{Answer}
-use Rattle.planner.specs.declared.answers.Answer.TheVariants as answer
-use Rattle.planner.specs.Plans.{verdict_of, PlanDone}
+use Rattle.planner.specs.Plans.{Answer, PlanDone}
+use Rattle.planner.specs.Plans as answer
 use Rattle.planner.specs.Lent.{Lent}
 use Rattle.planner.specs.Work.{PlanRoom}
 use Rattle.planner.proofs.PlanLaws.{whole_room, plan_below_at}

@@ -7,8 +7,7 @@ use mathlib.Core.List.{List}
 use lib.ListN.{length, get_or}
 use borrow.Author.Tests.{ltb-false, leb-false, le-ltb, lt-leb}
 use Rattle.sums.proofs.Searches.{first_ext}
-use Rattle.star.specs.declared.refusals.Verdict.TheVariants.{Accepted}
-use Rattle.star.specs.Refusals.{notice_of, Ranges}
+use Rattle.star.specs.Refusals.{Accepted, notice_of, Ranges}
 use Rattle.star.specs.Checks.{demand_short_verdict, demand_above_verdict}
 use Rattle.star.specs.Tables.{Demands, Alike}
 use Rattle.star.specs.Rooms.{Square}
@@ -20,7 +19,7 @@ use Rattle.planner.proofs.PlanLaws.{lent_fits, long_lent}
 use Rattle.books.specs.Books.{books_agree, first_disagreeing}
 use Rattle.books.specs.Rooms.{Tables}
 use Rattle.books.proofs.Agreements.{Agree, agreeing, none_disagreeing}
-use Rattle.calls.specs.Held.{Held, LongEnough, HeldAlike, disagreeing}
+use Rattle.calls.specs.Held.{Held, held, fresh_run, LongEnough, HeldAlike, disagreeing}
 use Rattle.calls.specs.Checks.{held_short_verdict, agreement_verdict, count_verdict, fresh_verdict, post_verdict, frame_verdict}
 use Rattle.calls.specs.Runs.{fresh_notice, post_notice, frame_notice}
 
@@ -45,6 +44,9 @@ held_tables few room = record {
   sendings = record { nodes = few; cells = room.sent };
   drops = record { nodes = few; cells = room.dropped };
 }
+
+pub long_tables : (n : ℕ) (waiting posted sent dropped : List ℕ) → n ≤ 64 → held_short_verdict n (length waiting) (length posted) (length sent) (length dropped) ≡ Accepted → Tables n waiting posted sent dropped
+long_tables n waiting posted sent dropped few e = held_tables few (long_held n (held (fresh_run n 0 0 0) waiting posted sent dropped) e)
 
 -- ---- 8
 -- the books of each pair agree

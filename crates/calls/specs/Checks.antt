@@ -2,9 +2,7 @@
 -- (`fresh_notice`, `post_notice`, `frame_notice`) say the same.
 use Rattle.std.specs.Prelude.{ℕ, ◌*◌, List, length}
 use Rattle.star.specs.declared.refusals.Refusal.TheVariants.{TableShort, BooksDisagree, CallsSpent}
-use Rattle.star.specs.declared.refusals.Verdict.{Verdict}
-use Rattle.star.specs.declared.refusals.Verdict.TheVariants.{Accepted}
-use Rattle.star.specs.Refusals.{spent, some_cell}
+use Rattle.star.specs.Refusals.{Verdict, Accepted, spent, some_cell}
 use Rattle.star.specs.Checks.{refuse, then, ranges_verdict, demand_short_verdict, demand_above_verdict}
 use Rattle.planner.specs.Checks.{lent_short_verdict}
 use Rattle.calls.specs.Held.{Held, held_short, disagreeing}

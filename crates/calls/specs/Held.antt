@@ -1,8 +1,6 @@
 -- What is held between the calls of a run, and what each call makes of it.
-use Rattle.std.specs.Prelude.{ℕ, ◌+◌, ◌*◌, ◌≤◌, ◌≡◌, Bool, ◌||◌, List, length}
-use Rattle.star.specs.declared.refusals.Verdict.{Verdict}
-use Rattle.star.specs.declared.refusals.Verdict.TheVariants.{Accepted, Refused}
-use Rattle.star.specs.Refusals.{short}
+use Rattle.std.specs.Prelude.{ℕ, ◌+◌, ◌*◌, ◌≤◌, ◌≡◌, Bool, ◌||◌, List, length, Ok, Err}
+use Rattle.star.specs.Refusals.{Verdict, short}
 use Rattle.star.specs.Tables.{Alike}
 use Rattle.books.specs.Books.{first_disagreeing}
 use Rattle.books.specs.Queues.{zeroed, increased, overflowed, queued, served}
@@ -68,5 +66,5 @@ after_frame kept h = held (frame_run h.run) (served h.run.nodes kept h.waiting) 
 
 -- the record after a call: another one where the call was accepted
 unfoldable pub record_after : (v : Verdict) (new old : Run) → Run
-record_after Accepted new old = new
-record_after (Refused r) new old = old
+record_after (Ok _) new old = new
+record_after (Err r) new old = old

@@ -1,11 +1,9 @@
 -- The entries `fresh`, `post` and `frame`: which refusal each gives, in which order, and what is held then.
 use Rattle.std.specs.Prelude.{ℕ, ◌*◌, ◌≡◌, ◌||◌, List, length}
-use Rattle.star.specs.declared.refusals.Verdict.{Verdict}
-use Rattle.star.specs.Refusals.{Notice, accepted, check, Promise, nodes_out, slots_out, rule_out, limit_out, short, spent, some_cell, first_above}
+use Rattle.star.specs.Refusals.{Verdict, Notice, accepted, check, Promise, nodes_out, slots_out, rule_out, limit_out, short, spent, some_cell, first_above, verdict_of}
 use Rattle.star.specs.Lines.{whole_frame}
 use Rattle.planner.specs.declared.answers.Report.{Report}
-use Rattle.planner.specs.declared.answers.Answer.{Answer}
-use Rattle.planner.specs.Plans.{verdict_of, report_of, PlanDone}
+use Rattle.planner.specs.Plans.{Answer, report_of, PlanDone}
 use Rattle.planner.specs.Lent.{Lent, lent, lent_short}
 use Rattle.calls.specs.declared.record.Run.{Run}
 use Rattle.calls.specs.Held.{Held, held, after_fresh, after_post, after_frame, held_short, disagreeing}

@@ -6,43 +6,23 @@ ghost use Rattle.calls.specs.Checks.{post_verdict};
 
 use crate::checks::{agreement, count_left, held_short};
 use crate::record::Run;
+use books::agreement::Books;
 use books::amounts::add;
 use books::queues::{drop_excess, enqueue};
 use star::checks::{demand_above, demand_short, ranges};
-use star::refusals::Verdict;
+use star::refusals::Refusal;
 
 // Which refusal is given, if any.
-fn post_verdict(
-    old: Run,
-    arrivals: &[u32],
-    waiting: &[u32],
-    posted: &[u64],
-    sent: &[u64],
-    dropped: &[u64],
-) -> Verdict
-    ensures { result ≡ post_verdict arrivals.now (held old waiting.now posted.now sent.now dropped.now) }
+#[tactic(auto, using(star::proofs::RefusalLaws::ranged, star::proofs::RefusalLaws::long_demand, crate::proofs::Verdicts::long_tables), unfolding(star::specs::Checks::then, crate::specs::Checks::post_verdict))]
+fn post_verdict(old: Run, arrivals: &[u32], books: &Books) -> Result<(), Refusal>
+    ensures { result ≡ post_verdict arrivals.now (held old books.now.waiting.now books.now.posted.now books.now.sent.now books.now.dropped.now) }
 {
-    let v = ranges(old.nodes, old.slots, old.rule, old.limit);
-    let Verdict::Accepted = v else {
-        return v;
-    };
+    ranges(old.nodes, old.slots, old.rule, old.limit)?;
     let n = old.nodes as usize;
-    let v = demand_short(n, arrivals.len());
-    let Verdict::Accepted = v else {
-        return v;
-    };
-    let v = held_short(n, waiting.len(), posted.len(), sent.len(), dropped.len());
-    let Verdict::Accepted = v else {
-        return v;
-    };
-    let v = agreement(old, waiting, posted, sent, dropped);
-    let Verdict::Accepted = v else {
-        return v;
-    };
-    let v = count_left(old.posts);
-    let Verdict::Accepted = v else {
-        return v;
-    };
+    demand_short(n, arrivals.len())?;
+    held_short(n, books)?;
+    agreement(old, books)?;
+    count_left(old.posts)?;
     demand_above(n, arrivals)
 }
 
@@ -54,18 +34,21 @@ pub fn post_on(
     posted: &mut [u64],
     sent: &[u64],
     dropped: &mut [u64],
-) -> Verdict
+) -> Result<(), Refusal>
     ensures { PostOn arrivals.now old waiting.old posted.old sent.now dropped.old (record_after result (post_run old) old) waiting.new posted.new dropped.new result }
 {
-    let v = post_verdict(old, arrivals, waiting, posted, sent, dropped);
-    let Verdict::Accepted = v else {
-        return v;
+    let books = Books {
+        waiting,
+        posted,
+        sent,
+        dropped,
     };
+    post_verdict(old, arrivals, &books)?;
     let n = old.nodes as usize;
     add(n, posted, arrivals);
     drop_excess(n, old.limit, arrivals, waiting, dropped);
     enqueue(n, old.limit, arrivals, waiting);
-    v
+    Ok(())
 }
 
 // How many posts the record counts after a post that is accepted.

@@ -1,4 +1,4 @@
-// The record of a run: N, L, B, the rule, and the counts of accepted posts and frames.
+// The record of a run: N, L, B, the rule, and the counts of accepted posts and frames. The rule stays a number: C reads and writes the record.
 #[repr(C)]
 #[derive(Clone, Copy)]
 pub struct Run {

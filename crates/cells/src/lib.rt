@@ -10,6 +10,7 @@ ghost use Rattle.cells.specs.Cells.{padded_in, kept_in, Gave, Took};
 use star::tables::{get, put};
 
 // What the pair of source i and destination j still gets.
+#[tactic(auto, using(crate::proofs::CellLaws::padded_cell))]
 pub fn padded(n: usize, table: &[u32], i: usize, j: usize) -> u32
     requires square { Square n table.now }
     requires pair { (i < n) × (j < n) }
@@ -19,6 +20,7 @@ pub fn padded(n: usize, table: &[u32], i: usize, j: usize) -> u32
 }
 
 // What the pair keeps.
+#[tactic(auto, using(crate::proofs::CellLaws::kept_cell_lem))]
 pub fn kept(n: usize, table: &[u32], i: usize, j: usize) -> u32
     requires square { Square n table.now }
     requires pair { (i < n) × (j < n) }
@@ -28,6 +30,7 @@ pub fn kept(n: usize, table: &[u32], i: usize, j: usize) -> u32
 }
 
 // The pair gets h slots more.
+#[tactic(auto, using(crate::proofs::CellLaws::padded_cell))]
 pub fn give(n: usize, table: &mut [u32], i: usize, j: usize, h: u32)
     requires square { Square n table.old }
     requires pair { (i < n) × (j < n) × (cell n (padded_in table.old) i j + h < 65536) }
@@ -37,6 +40,7 @@ pub fn give(n: usize, table: &mut [u32], i: usize, j: usize, h: u32)
 }
 
 // The pair gets h slots fewer.
+#[tactic(auto, using(crate::proofs::CellLaws::padded_cell))]
 pub fn take(n: usize, table: &mut [u32], i: usize, j: usize, h: u32)
     requires square { Square n table.old }
     requires pair { (i < n) × (j < n) × (h ≤ cell n (padded_in table.old) i j) }

@@ -4,10 +4,13 @@ use mathlib.Core.Bool.{Bool, true, false, not}
 use mathlib.Core.List.{List}
 use Prim.Native.Nat.{ℕ, zero, suc, ◌+◌, ◌-◌, ◌*◌, ◌≤◌, ◌<◌}
 use native.Mathlib.Omega.{arith}
-use borrow.Author.Count.{below_more}
 use borrow.Author.Tests.{eq-eqb, ne_eqb}
-use lib.Dec.{eqb}
-use lib.ListN.{get_or}
+use lib.Dec.{eqb, ltb}
+use lib.ListN.{get_or, length}
+use native.Mathlib.Nat.{zero-add}
+use Rattle.std.specs.Bool.{MatchBool}
+use Rattle.std.specs.List.{range_with_len, AllWithin, HoldsAt}
+use Rattle.std.proofs.lemmas.List.FromFn.{length-range_with_len, get_or-range_with_len}
 use Rattle.sums.specs.Sums.{sum_to, bit}
 use Rattle.sums.specs.Tables.{cell}
 use Rattle.sums.specs.Searches.{some_below}
@@ -17,22 +20,26 @@ use Rattle.sums.proofs.Searches.{some_none, some_at}
 use Rattle.star.specs.Schedules.{differ, reconfigurations}
 use Rattle.changes.specs.Changes.{change_at}
 
--- the destinations below j hear the same
-pub record Same (n : ℕ) (one : List ℕ) (k : ℕ) (other : List ℕ) (m j : ℕ) : Type 0 where
-  pub upto : j ≤ n
-  pub all : (u : ℕ) → u < j → cell n one k u ≡ cell n other m u
-
-pub same_more : {n : ℕ} {one : List ℕ} {k : ℕ} {other : List ℕ} {m j : ℕ} → Same n one k other m j → j < n → cell n one k j ≡ cell n other m j → Same n one k other m (j + 1)
-same_more {n} {one} {k} {other} {m} {j} g lt e = record { upto = omega arith; all = below_more (λ (u : ℕ). cell n one k u ≡ cell n other m u) j g.all e }
-
+-- ---- a slot is compared destination by destination
 pub differ_at : (n : ℕ) (one : List ℕ) (k : ℕ) (other : List ℕ) (m j : ℕ) → j < n → (cell n one k j ≡ cell n other m j → ⊥) → true ≡ differ n one k other m
 unfolding differ
 differ_at n one k other m j lt ne = sym (some_at (λ u. not (eqb (cell n one k u) (cell n other m u))) n j lt (ap not (ne_eqb (cell n one k j) (cell n other m j) ne)))
 
-pub differ_none : {n : ℕ} {one : List ℕ} {k : ℕ} {other : List ℕ} {m j : ℕ} → Same n one k other m j → n ≤ j → false ≡ differ n one k other m
+pub differ_none : (n : ℕ) (one : List ℕ) (k : ℕ) (other : List ℕ) (m : ℕ) → ((u : ℕ) → u < n → cell n one k u ≡ cell n other m u) → false ≡ differ n one k other m
 unfolding differ
-differ_none {n} {one} {k} {other} {m} g le =
-    sym (some_none (λ u. not (eqb (cell n one k u) (cell n other m u))) n (λ u hu. ap not (eq-eqb (cell n one k u) (cell n other m u) (g.all u (omega arith)))))
+differ_none n one k other m same =
+    sym (some_none (λ u. not (eqb (cell n one k u) (cell n other m u))) n (λ u hu. ap not (eq-eqb (cell n one k u) (cell n other m u) (same u hu))))
+
+-- what a search of all destinations for one that hears another answers
+pub differ_any : (r : Bool) (n : ℕ) (one : List ℕ) (k : ℕ) (other : List ℕ) (m : ℕ)
+    → MatchBool r ((q : ℕ) × (q < length (range_with_len 0 n)) × HoldsAt (λ j. cell n one k j ≡ cell n other m j → ⊥) (range_with_len 0 n) q)
+    (AllWithin (λ j. cell n one k j ≡ cell n other m j) (range_with_len 0 n) 0 (length (range_with_len 0 n)))
+    → r ≡ differ n one k other m
+differ_any true n one k other m h =
+    let lt : h.0 < n = omega (arith, length-range_with_len 0 n, h.1) in
+    differ_at n one k other m h.0 lt (rw (get_or-range_with_len 0 n h.0 0 lt, zero-add h.0) at (h.2 0))
+differ_any false n one k other m h =
+    differ_none n one k other m (λ u hu. rw (get_or-range_with_len 0 n u 0 hu, zero-add u) at (h u 0 (omega arith) (omega (arith, length-range_with_len 0 n))))
 
 -- ---- a setting written from slot t on
 some_ext : (m : ℕ) (f g : ℕ → Bool) → ((q : ℕ) → q < m → f q ≡ g q) → some_below m f ≡ some_below m g
@@ -48,15 +55,15 @@ differ_ext n one other one' other' k m k' m' e f =
     some_ext n (λ j. not (eqb (cell n one k j) (cell n other m j))) (λ j. not (eqb (cell n one' k' j) (cell n other' m' j)))
     (λ j hj. rw (e j hj, f j hj) refl)
 
-pub change_start : (n : ℕ) (s : List ℕ) (t : ℕ) (setting : List ℕ) → t < 1 → 0 ≡ change_at n s t setting
+pub change_start : (n : ℕ) (s : List ℕ) (t : ℕ) (setting : List ℕ) {b : Bool} → t ≤ 0 → b ≡ ltb 0 t → bit b ≡ change_at n s t setting
 unfolding change_at
-change_start n s zero setting lt = refl
-change_start n s (suc t) setting lt = absurd (omega arith)
+change_start n s zero setting le e = ap bit e
+change_start n s (suc t) setting le e = absurd (omega arith)
 
-pub change_after : (n : ℕ) (s : List ℕ) (t : ℕ) (setting : List ℕ) {b : Bool} → 1 ≤ t → b ≡ differ n s (t - 1) setting 0 → bit b ≡ change_at n s t setting
+pub change_after : (n : ℕ) (s : List ℕ) (t : ℕ) (setting : List ℕ) {b : Bool} → 0 < t → b ≡ differ n s (t - 1) setting 0 → bit b ≡ change_at n s t setting
 unfolding change_at
-change_after n s zero setting le e = absurd (omega arith)
-change_after n s (suc t) setting le e = let same : suc t - 1 ≡ t = omega arith in ap bit (rw same at e)
+change_after n s zero setting lt e = absurd (omega arith)
+change_after n s (suc t) setting lt e = let same : suc t - 1 ≡ t = omega arith in ap bit (rw same at e)
 
 -- a setting has one slot
 setting_cell : (n : ℕ) (setting : List ℕ) (j : ℕ) → cell n setting 0 j ≡ get_or setting j 0
@@ -67,7 +74,7 @@ setting_cell n setting j = let e : 0 * n + j ≡ j = omega arith in ap (λ (x : 
 same_new : (n : ℕ) (u setting : List ℕ) (t h : ℕ) → ((k j : ℕ) → t ≤ k → k < t + h → j < n → cell n u k j ≡ get_or setting j 0) → (k : ℕ) → t ≤ k → suc k < t + h
     → bit (differ n u k u (suc k)) ≡ 0
 same_new n u setting t h new k lo hi =
-    ap bit (sym (differ_none {j = n} (record { upto = omega arith; all = λ j hj. new k j lo (omega arith) hj ∙ sym (new (suc k) j (omega arith) hi hj) }) (omega arith)))
+    ap bit (sym (differ_none n u k u (suc k) (λ j hj. new k j lo (omega arith) hj ∙ sym (new (suc k) j (omega arith) hi hj))))
 
 -- the slots from t up to t + h hold the setting, and those before are as they were
 pub changes_more : (n : ℕ) (s u setting : List ℕ) (t h : ℕ) → 1 ≤ h

@@ -13,14 +13,7 @@ fn differs(n: usize, one: &[u8], k: usize, other: &[u8], m: usize) -> bool
     requires { (n ≤ 64) × (Slot n one.now k) × (Slot n other.now m) }
     ensures { result ≡ differ n one.now k other.now m }
 {
-    let mut j = 0;
-    while j < n {
-        if frames::heard(n, one, k, j) != frames::heard(n, other, m, j) {
-            return true;
-        }
-        j += 1;
-    }
-    false
+    (0..n).any(|j| frames::heard(n, one, k, j) != frames::heard(n, other, m, j))
 }
 
 // What a setting adds to the reconfigurations where it is written from slot t on: 1 where the slot before differs from it, else 0.
@@ -28,11 +21,5 @@ pub fn change(n: usize, schedule: &[u8], t: usize, setting: &[u8]) -> u32
     requires { (Frame n t schedule.now) × (n ≤ length setting.now) }
     ensures { result ≡ change_at n schedule.now t setting.now }
 {
-    if t < 1 {
-        return 0;
-    }
-    if differs(n, schedule, t - 1, setting, 0) {
-        return 1;
-    }
-    0
+    u32::from(t > 0 && differs(n, schedule, t - 1, setting, 0))
 }

@@ -2,8 +2,9 @@
 use mathlib.Core.Path.{◌≡◌, refl}
 use mathlib.Core.List.{[], ◌∷◌}
 use Rattle.star.specs.declared.refusals.Refusal.TheVariants.{DemandAbove, BooksDisagree, CallsSpent, BadFile}
-use Rattle.planner.specs.declared.answers.Answer.TheVariants.{Planned, Refused}
-use Rattle.files.specs.declared.output.Output.TheVariants as output
+use Rattle.std.specs.Prelude.{Err}
+use Rattle.planner.specs.Plans.{Planned, Refused}
+use Rattle.files.specs.Output.{Bytes}
 use Rattle.export.specs.Reports.{plan_report, output_report}
 
 -- the place, the kept total, the refused total and the reconfigurations
@@ -21,8 +22,8 @@ spent : plan_report (Refused CallsSpent) ≡ 0 ∷ 0 ∷ 0 ∷ 0 ∷ []
 spent = refl
 
 -- the place and the number of bytes
-output_bytes : output_report (output.Bytes 56) ≡ 0 ∷ 56 ∷ []
+output_bytes : output_report (Bytes 56) ≡ 0 ∷ 56 ∷ []
 output_bytes = refl
 
-output_refused : output_report (output.Refused (BadFile 3)) ≡ 3 ∷ 0 ∷ []
+output_refused : output_report (Err (BadFile 3)) ≡ 3 ∷ 0 ∷ []
 output_refused = refl

@@ -8,21 +8,18 @@ use lib.IntN.{ℤ}
 use lib.ListN.{get_or, take}
 use Rattle.star.specs.declared.refusals.Refusal.{Refusal}
 use Rattle.star.specs.declared.refusals.Refusal.TheVariants.{Nodes, Slots, Rule, DemandShort, TableShort, DemandAbove, QueueLimit, BooksDisagree, CallsSpent, BadFile}
-use Rattle.star.specs.declared.refusals.Verdict.{Verdict}
-use Rattle.star.specs.Refusals.{refusal_number, notice, notice_of, verdict_number, verdict_place}
+use Rattle.std.specs.Prelude.{Ok, Err}
+use Rattle.star.specs.Refusals.{Verdict, verdict_of, refusal_number, notice, notice_of, verdict_number, verdict_place}
 use Rattle.star.proofs.RefusalLaws.{never}
 use Rattle.pieces.proofs.PieceLaws.{answered_same}
 use Rattle.slacks.proofs.SlacksTheorems.{slacks_theorems}
-use Rattle.planner.specs.declared.answers.Answer.{Answer}
-use Rattle.planner.specs.Plans.{verdict_of, report_of}
+use Rattle.planner.specs.Plans.{Answer, report_of}
 use Rattle.planner.specs.Lent.{Lent}
 use Rattle.planner.proofs.PlanTheorems.{plan_theorems}
 use Rattle.calls.specs.Held.{Held}
 use Rattle.run.proofs.CallLaws.{fresh_theorems, post_theorems}
 use Rattle.run.proofs.FrameLaws.{frame_theorems}
-use Rattle.files.specs.declared.output.Output.{Output}
-use Rattle.files.specs.declared.output.Output.TheVariants as output
-use Rattle.files.specs.Output.{output_verdict, output_length}
+use Rattle.files.specs.Output.{Output, Bytes, output_verdict, output_length}
 use Rattle.files.specs.Format.{rule_of}
 use Rattle.file_writer.specs.Theorems.{ReadsBack}
 use Rattle.file_writer.specs.Writing.{WriteResult}
@@ -124,8 +121,8 @@ same_output x y e = (x.its_number ∙ ap (λ f. verdict_number (output_verdict f
 
 module _ (n l limit rule : ℕ) (kinds cells out : List ℕ) where
   written_back : (out' : List ℕ) (f : Output) → WriteResult n l limit rule kinds cells out out' f → verdict_number (output_verdict f) ≡ 0 → ReadsBack n l limit rule kinds cells (take (output_length f) out')
-  written_back out' (output.Bytes size) w e = write_theorems.back n l limit rule kinds cells out out' size w
-  written_back out' (output.Refused x) w e = absurd (numbered x e)
+  written_back out' (Ok size) w e = write_theorems.back n l limit rule kinds cells out out' size w
+  written_back out' (Err x) w e = absurd (numbered x e)
 
   write_exported : WriteExported n l limit rule kinds cells out
   write_exported = record {
@@ -140,14 +137,14 @@ module _ (n l limit rule : ℕ) (kinds cells out : List ℕ) where
 
 module _ (file text : List ℕ) where
   same_print : (text₁ text₂ : List ℕ) (f g : Output) → PrintResult file text text₁ f → PrintResult file text text₂ g → output_verdict f ≡ output_verdict g → rule_of file ≡ 0 → (f ≡ g) × (text₁ ≡ text₂)
-  same_print text₁ text₂ (output.Bytes j) (output.Bytes k) p q e fair =
+  same_print text₁ text₂ (Ok j) (Ok k) p q e fair =
       let a = p.accepted refl in
       let b = q.accepted refl in
       let one = answered_same a b (print_theorems.certain file a.text b.text a.prints b.prints fair) in
-      (ap output.Bytes one.1, one.0)
-  same_print text₁ text₂ (output.Refused x) (output.Refused y) p q e fair = (cc, p.refused x refl ∙ sym (q.refused y refl))
-  same_print text₁ text₂ (output.Bytes j) (output.Refused y) p q e fair = absurd (never (sym e))
-  same_print text₁ text₂ (output.Refused x) (output.Bytes k) p q e fair = absurd (never e)
+      (ap Bytes one.1, one.0)
+  same_print text₁ text₂ (Err x) (Err y) p q e fair = (cc, p.refused x refl ∙ sym (q.refused y refl))
+  same_print text₁ text₂ (Ok j) (Err y) p q e fair = absurd (never (sym e))
+  same_print text₁ text₂ (Err x) (Ok k) p q e fair = absurd (never e)
 
   play_exported : PlayExported file text
   play_exported = record {

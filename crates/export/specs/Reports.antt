@@ -1,11 +1,8 @@
 -- An exported entry reports its answer as numbers.
 use Rattle.std.specs.Prelude.{ℕ, ◌≡◌, List, [], ◌∷◌}
-use Rattle.star.specs.declared.refusals.Verdict.{Verdict}
-use Rattle.star.specs.Refusals.{verdict_number, verdict_place}
-use Rattle.planner.specs.declared.answers.Answer.{Answer}
-use Rattle.planner.specs.Plans.{verdict_of, report_of}
-use Rattle.files.specs.declared.output.Output.{Output}
-use Rattle.files.specs.Output.{output_verdict, output_length}
+use Rattle.star.specs.Refusals.{Verdict, verdict_of, verdict_number, verdict_place}
+use Rattle.planner.specs.Plans.{Answer, report_of}
+use Rattle.files.specs.Output.{Output, output_verdict, output_length}
 
 -- the number and the place are those of a verdict with which the entry keeps its promise
 pub record Reported (promise : Verdict → Type 0) (number place : ℕ) : Type 0 where

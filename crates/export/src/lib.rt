@@ -1,4 +1,5 @@
 // The entries for programs in C and Rust: numbers and slices in, the documents' number out, its place and what else is reported through a reference.
+// The C interface has numbers for rules, kinds and refusals and lent tables one by one, and so have the functions called here, but for the answer, a Result.
 #![tactic(auto)]
 
 ghost use Rattle.std.specs.Prelude.{◌≡◌};
@@ -10,8 +11,8 @@ ghost use Rattle.scenario_text.specs.Outcomes.{PrintResult};
 ghost use Rattle.export.specs.Reports.{Reported, ReportedPlan, ReportedOutput, plan_report, output_report};
 
 use calls::record::Run;
-use files::output::Output;
-use planner::answers::{Answer, report_of, verdict};
+use planner::answers::{Report, report_of};
+use star::refusals::Refusal;
 
 // `slacks::slacks`; returns the number of the refusal, 0 where the call is accepted, and stores its place.
 #[unsafe(no_mangle)]
@@ -24,18 +25,18 @@ pub extern "C" fn gyodaebeun_slacks(
 ) -> u32
     ensures { Reported (SlacksResult nodes slots demand.now slacks.old slacks.new) result place.new }
 {
-    let v = slacks::slacks(nodes, slots, demand, slacks);
-    *place = star::refusals::place(v);
-    star::refusals::number(v)
+    let answer = slacks::slacks(nodes, slots, demand, slacks);
+    *place = star::refusals::place(&answer);
+    star::refusals::number(&answer)
 }
 
 // The place, the kept total, the refused total and the reconfigurations of an answer.
-fn reported(a: Answer) -> [u32; 4]
-    ensures { result ≡ plan_report a }
+fn reported(answer: Result<Report, Refusal>) -> [u32; 4]
+    ensures { result ≡ plan_report answer }
 {
-    let report = report_of(a);
+    let report = report_of(answer);
     [
-        star::refusals::place(verdict(a)),
+        star::refusals::place(&answer),
         report.kept,
         report.refused,
         report.reconfigurations,
@@ -57,9 +58,9 @@ pub extern "C" fn gyodaebeun_plan(
 ) -> u32
     ensures { ReportedPlan (λ a. PlanOn nodes slots rule demand.now kept.old withdrawn.old schedule.old kept.new withdrawn.new schedule.new a) result report.new }
 {
-    let a = planner::plans::plan(nodes, slots, rule, demand, kept, withdrawn, schedule);
-    *report = reported(a);
-    star::refusals::number(verdict(a))
+    let answer = planner::plans::plan(nodes, slots, rule, demand, kept, withdrawn, schedule);
+    *report = reported(answer);
+    star::refusals::number(&answer)
 }
 
 // `run::fresh::fresh`; returns the number of the refusal, 0 where the call is accepted, and stores its place.
@@ -78,11 +79,11 @@ pub extern "C" fn gyodaebeun_fresh(
 ) -> u32
     ensures { Reported (λ v. FreshOn nodes slots limit rule run.old waiting.old posted.old sent.old dropped.old run.new waiting.new posted.new sent.new dropped.new v) result place.new }
 {
-    let v = run::fresh::fresh(
+    let answer = run::fresh::fresh(
         run, nodes, slots, limit, rule, waiting, posted, sent, dropped,
     );
-    *place = star::refusals::place(v);
-    star::refusals::number(v)
+    *place = star::refusals::place(&answer);
+    star::refusals::number(&answer)
 }
 
 // `run::post::post`; returns the number of the refusal, 0 where the call is accepted, and stores its place.
@@ -98,9 +99,9 @@ pub extern "C" fn gyodaebeun_post(
 ) -> u32
     ensures { Reported (λ v. PostOn arrivals.now run.old waiting.old posted.old sent.now dropped.old run.new waiting.new posted.new dropped.new v) result place.new }
 {
-    let v = run::post::post(run, arrivals, waiting, posted, sent, dropped);
-    *place = star::refusals::place(v);
-    star::refusals::number(v)
+    let answer = run::post::post(run, arrivals, waiting, posted, sent, dropped);
+    *place = star::refusals::place(&answer);
+    star::refusals::number(&answer)
 }
 
 // `run::frame::frame`; returns the number of the refusal, 0 where the call is accepted, and stores its place, the kept total, the refused
@@ -119,21 +120,18 @@ pub extern "C" fn gyodaebeun_frame(
 ) -> u32
     ensures { ReportedPlan (λ a. FrameOn run.old waiting.old posted.now sent.old dropped.now kept.old withdrawn.old schedule.old run.new waiting.new sent.new kept.new withdrawn.new schedule.new a) result report.new }
 {
-    let a = run::frame::frame(
+    let answer = run::frame::frame(
         run, waiting, posted, sent, dropped, kept, withdrawn, schedule,
     );
-    *report = reported(a);
-    star::refusals::number(verdict(a))
+    *report = reported(answer);
+    star::refusals::number(&answer)
 }
 
 // The place and the number of bytes of an answer.
-fn reported_output(output: Output) -> [u32; 2]
+fn reported_output(output: Result<u32, Refusal>) -> [u32; 2]
     ensures { result ≡ output_report output }
 {
-    [
-        star::refusals::place(files::output::verdict(output)),
-        files::output::length(output),
-    ]
+    [star::refusals::place(&output), output.unwrap_or_default()]
 }
 
 // `file_writer::writing::write_file`; returns the number of the refusal, 0 where the call is accepted, and stores its place and the file's length.
@@ -152,7 +150,7 @@ pub extern "C" fn gyodaebeun_write_scenario(
 {
     let output = file_writer::writing::write_file(nodes, slots, limit, rule, kinds, cells, file);
     *report = reported_output(output);
-    star::refusals::number(files::output::verdict(output))
+    star::refusals::number(&output)
 }
 
 // `scenario_text::answers::print`; returns the number of the refusal, 0 where the call is accepted, and stores its place and the text's length.
@@ -166,5 +164,5 @@ pub extern "C" fn gyodaebeun_play_scenario(
 {
     let output = scenario_text::answers::print(file, text);
     *report = reported_output(output);
-    star::refusals::number(files::output::verdict(output))
+    star::refusals::number(&output)
 }

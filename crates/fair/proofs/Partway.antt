@@ -8,7 +8,7 @@ use mathlib.Core.List.{List}
 use lib.ListN.{length, get_or, set, length-set}
 use lib.Seq.{get_or-set_same, get_or-set_other}
 use lib.Dec.{ltb}
-use borrow.Author.Tests.{lt-ltb, le-ltb, ne_eqb}
+use borrow.Author.Tests.{lt-ltb, ne_eqb}
 use Rattle.sums.specs.Sums.{sum_to}
 use Rattle.sums.specs.Tables.{cell}
 use Rattle.sums.proofs.Cases.{by_eq, by_lt}
@@ -55,10 +55,10 @@ module _ (n : ℕ) (s : Cutting) (ℓ : ℕ) (uncut : get_or s.done ℓ 0 ≡ 0)
     closed_fixed = omega (arith, closed_loose, cell_split n s (source_on n ℓ t) (destination_on n ℓ t))
 
   -- it has not: the cell is unmodified
-  module _ (free : get_or s.done (crossing n ℓ t) 0 ≤ 0) where
+  module _ (free : get_or s.done (crossing n ℓ t) 0 ≡ 0) where
     pub open_loose : loose_on n s ℓ t ≡ on_line n s.values ℓ t
     unfolding loose on_line
-    open_loose = rw (mark, le-ltb 0 (get_or s.done (crossing n ℓ t) 0) free) refl
+    open_loose = rw (mark, free) refl
 
     pub open_fixed : fixed_on n s ℓ t ≡ 0
     unfolding on_line
@@ -102,7 +102,7 @@ module _ {n : ℕ} {s : Cutting} {a b : List ℕ} {ℓ p q : ℕ} {v' a' b' : Li
         }
 
     -- an unmodified cell is cut
-    module _ (free : get_or s.done (crossing n ℓ t) 0 ≤ 0) {v'' a'' b'' : List ℕ} {r : ℕ} (C : CellCut n v' a' b' ℓ t p q v'' a'' b'' r) where
+    module _ (free : get_or s.done (crossing n ℓ t) 0 ≡ 0) {v'' a'' b'' : List ℕ} {r : ℕ} (C : CellCut n v' a' b' ℓ t p q v'' a'' b'' r) where
       now : r ≡ loose_on n s ℓ t * p / q
       now = C.share ∙ ap (λ x. x * p / q) (next_value ∙ sym (open_loose n s ℓ uncut t free))
 
@@ -197,12 +197,11 @@ module _ (n : ℕ) (cap kept done a b : List ℕ) (ℓ : ℕ) (h : CanCutLine n 
     pub own_b : t ≤ n → get_or b' ℓ 0 ≡ get_or b ℓ 0
     own_b le = (P.beside ℓ (λ u hu e. crossing_other n ℓ u (omega arith) e)).1
 
-    pub can_cut_cell : t < n → get_or done (crossing n ℓ t) 0 ≤ 0 → CanCutCell n v' a' b' ℓ t (get_or cap ℓ 0 - get_or b ℓ 0) (get_or a ℓ 0)
+    pub can_cut_cell : t < n → get_or done (crossing n ℓ t) 0 ≡ 0 → CanCutCell n v' a' b' ℓ t (get_or cap ℓ 0 - get_or b ℓ 0) (get_or a ℓ 0)
     can_cut_cell ht free =
         let cl : crossing n ℓ t < 2 * n = crossing_lt n ℓ t line_lt ht in
         record {
           square = record { nodes = h.nodes; cells = omega (arith, P.lengths, h.sound.cells) };
-          room = (omega (arith, P.lengths, h.counted.room), omega (arith, P.lengths, h.counted.room));
           line = (line_lt, ht);
           fraction = (omega (arith, h.capacities.most ℓ line_lt), proper);
           demand = omega (arith, next_value P line_lt ht, on_line_most n kept ℓ t h.demands line_lt ht);
@@ -217,12 +216,12 @@ module _ (n : ℕ) (cap kept done a b : List ℕ) (ℓ : ℕ) (h : CanCutLine n 
           most = omega (arith, next_sums P line_lt ht, b_within (crossing n ℓ t) cl, h.capacities.most (crossing n ℓ t) cl);
         }
 
-    pub partway_turn : {v'' a'' b'' : List ℕ} {r : ℕ} → t < n → get_or done (crossing n ℓ t) 0 ≤ 0 →
+    pub partway_turn : {v'' a'' b'' : List ℕ} {r : ℕ} → t < n → get_or done (crossing n ℓ t) 0 ≡ 0 →
         CellCut n v' a' b' ℓ t (get_or cap ℓ 0 - get_or b ℓ 0) (get_or a ℓ 0) v'' a'' b'' r →
         Partway n (cutting kept done) a b ℓ (get_or cap ℓ 0 - get_or b ℓ 0) (get_or a ℓ 0) v'' a'' b'' (t + 1) (sum + r)
     partway_turn ht free C =
         let can = can_cut_cell ht free in
-        partway_cut P line_lt ht line_uncut free C can.square.cells can.room.0 can.room.1 can.part
+        partway_cut P line_lt ht line_uncut free C can.square.cells (omega (arith, P.lengths, h.counted.room)) (omega (arith, P.lengths, h.counted.room)) can.part
 
   module _ {v' a' b' : List ℕ} {sum : ℕ} (Q : Partway n (cutting kept done) a b ℓ (get_or cap ℓ 0 - get_or b ℓ 0) (get_or a ℓ 0) v' a' b' n sum) where
     P : Partway n (cutting kept done) a b ℓ (numerator n cap (cutting kept done) ℓ) (unmodified_sum n (cutting kept done) ℓ) v' a' b' n sum

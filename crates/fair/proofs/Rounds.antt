@@ -1,5 +1,5 @@
--- The tables after k steps hold the state of the definition after k steps, and its sums; what they begin with, and what they hold at the end. By the laws of one step. Assumes nothing.
-use Prim.Native.Nat.{ℕ, ◌+◌, ◌*◌, ◌≤◌, ◌<◌}
+-- The tables hold the state of the definition after as many steps as lines have been cut, and its sums; what they begin with, and what they hold at the end. By the laws of one step. Assumes nothing.
+use Prim.Native.Nat.{ℕ, ◌+◌, ◌-◌, ◌*◌, ◌≤◌, ◌<◌}
 use native.Mathlib.Numerals.{add-one}
 use native.Mathlib.Omega.{arith}
 use mathlib.Core.Path.{◌≡◌, sym, ap, ap₂, ◌∙◌}
@@ -14,34 +14,35 @@ use Rattle.star.proofs.LineLaws.{line_most, demands_below}
 use Rattle.fair.specs.Fair.{taken, cut_line, step, steps, uncut, fair_kept}
 use Rattle.fair.specs.Cuts.{cutting, Counted, Sound, Comparable, NextLine, CanCutLine, LineCut, CanCutAll, CanCutExactly}
 use Rattle.fair.proofs.LineCuts.{line_split}
-use Rattle.fair.proofs.Steps.{steps_sound, steps_below, steps_shrink, steps_still, step_cuts, taken_is_smallest, uncut_a, uncut_b}
+use Rattle.fair.proofs.Steps.{steps_sound, steps_below, steps_shrink, steps_still, step_cuts, taken_is_smallest, cuts, cuts_most, cuts_none, cuts_more, uncut_a, uncut_b}
 
 -- ---- the steps
-pub record Stepped (n : ℕ) (cap d kept done a b : List ℕ) (k : ℕ) : Type 0 where
-  pub upto : k ≤ 2 * n
-  pub state : cutting kept done ≡ steps n cap (uncut n d) k
+pub record Stepped (n : ℕ) (cap d kept done a b : List ℕ) : Type 0 where
+  pub state : cutting kept done ≡ steps n cap (uncut n d) (cuts n (cutting kept done))
   pub counted : Counted n (cutting kept done) a b
 
 module _ (n : ℕ) (cap d done₀ a₀ b₀ : List ℕ) (h : CanCutAll n cap d done₀ a₀ b₀) where
-  pub stepped_start : Stepped n cap d d done₀ a₀ b₀ 0
-  unfolding steps uncut
+  at_start : cutting d done₀ ≡ uncut n d
+  unfolding uncut
+  at_start = ap₂ cutting (sym (square_same n d h.cells)) h.none
+
+  pub stepped_start : Stepped n cap d d done₀ a₀ b₀
+  unfolding steps
   stepped_start = record {
-    upto = omega arith;
-    state = ap₂ cutting (sym (square_same n d h.cells)) h.none;
+    state = at_start ∙ ap (steps n cap (uncut n d)) (sym (ap (cuts n) at_start ∙ cuts_none n d));
     counted = h.counted;
   }
 
-  module _ {kept done a b : List ℕ} {k : ℕ} (S : Stepped n cap d kept done a b k) where
+  module _ {kept done a b : List ℕ} (S : Stepped n cap d kept done a b) where
     stepped_sound : Sound n cap (cutting kept done)
-    stepped_sound = rw S.state (steps_sound n cap d k)
+    stepped_sound = rw S.state (steps_sound n cap d (cuts n (cutting kept done)))
 
     pub stepped_comparable : Comparable n cap a b
     stepped_comparable = record {
       nodes = h.nodes;
       capacities = h.capacities;
-      room = S.counted.room;
       most = λ ℓ hl.
-          let shrunk : line_sum n kept ℓ ≤ line_sum n d ℓ = rw (ap (λ s. s.values) S.state) (steps_shrink n cap d k ℓ hl) in
+          let shrunk : line_sum n kept ℓ ≤ line_sum n d ℓ = rw (ap (λ s. s.values) S.state) (steps_shrink n cap d (cuts n (cutting kept done)) ℓ hl) in
           omega (arith, S.counted.unmodified ℓ hl, S.counted.modified ℓ hl, line_split n (cutting kept done) ℓ, line_most n d ℓ h.nodes h.demands hl);
       within = λ ℓ hl. omega (arith, S.counted.modified ℓ hl, stepped_sound.within ℓ hl);
     }
@@ -56,35 +57,39 @@ module _ (n : ℕ) (cap d done₀ a₀ b₀ : List ℕ) (h : CanCutAll n cap d d
         stepped_can = record {
           nodes = h.nodes;
           capacities = h.capacities;
-          demands = demands_below n d kept h.demands (rw (ap (λ s. s.values) S.state) (steps_below n cap d k));
+          demands = demands_below n d kept h.demands (rw (ap (λ s. s.values) S.state) (steps_below n cap d (cuts n (cutting kept done))));
           counted = S.counted;
           sound = stepped_sound;
           smallest = rw is (taken_is_smallest n cap (cutting kept done) stepped_sound (omega (arith, is)));
         }
 
-        pub stepped_more : {kept' done' a' b' : List ℕ} → k < 2 * n → LineCut n cap kept done a b ℓ kept' done' a' b' → Stepped n cap d kept' done' a' b' (k + 1)
-        unfolding steps
-        stepped_more hk C = record {
-          upto = omega arith;
-          state =
-              C.state
-              ∙ ap (cut_line n cap (cutting kept done)) is
-              ∙ sym (step_cuts n cap (cutting kept done) (omega (arith, is)))
-              ∙ ap (step n cap) S.state
-              ∙ ap (steps n cap (uncut n d)) (sym (add-one k));
-          counted = C.counted;
-        }
+        module _ {kept' done' a' b' : List ℕ} (C : LineCut n cap kept done a b ℓ kept' done' a' b') where
+          cut_more : cuts n (cutting kept' done') ≡ cuts n (cutting kept done) + 1
+          cut_more = ap (cuts n) C.state ∙ cuts_more n cap (cutting kept done) stepped_sound ℓ stepped_can.smallest
+
+          pub stepped_more : Stepped n cap d kept' done' a' b'
+          unfolding steps
+          stepped_more = record {
+            state =
+                C.state
+                ∙ ap (cut_line n cap (cutting kept done)) is
+                ∙ sym (step_cuts n cap (cutting kept done) (omega (arith, is)))
+                ∙ ap (step n cap) S.state
+                ∙ ap (steps n cap (uncut n d)) (sym (cut_more ∙ add-one (cuts n (cutting kept done))));
+            counted = C.counted;
+          }
+
+          -- fewer lines are left
+          pub stepped_less : 2 * n - cuts n (cutting kept' done') < 2 * n - cuts n (cutting kept done)
+          stepped_less = omega (arith, cut_more, cuts_most n (cutting kept' done'))
 
       -- none is left: further steps change nothing
-      pub stepped_early : 2 * n ≤ ℓ → kept ≡ fair_kept n cap d
+      pub stepped_end : 2 * n ≤ ℓ → kept ≡ fair_kept n cap d
       unfolding fair_kept
-      stepped_early ge =
+      stepped_end ge =
+          let k = cuts n (cutting kept done) in
           let none : 2 * n ≤ taken n cap (steps n cap (uncut n d) k) (2 * n) = rw (sym S.state) (omega (arith, is)) in
-          ap (λ s. s.values) (S.state ∙ sym (steps_still n cap (uncut n d) k (2 * n) none S.upto))
-
-    pub stepped_end : k ≡ 2 * n → kept ≡ fair_kept n cap d
-    unfolding fair_kept
-    stepped_end e = ap (λ s. s.values) (S.state ∙ ap (steps n cap (uncut n d)) e)
+          ap (λ s. s.values) (S.state ∙ sym (steps_still n cap (uncut n d) k (2 * n) none (cuts_most n (cutting kept done))))
 
 -- ---- the start and the end
 module _ (n : ℕ) (cap d kept done : List ℕ) (h : CanCutExactly n cap d kept done) {copied : List ℕ} (c : copied ≡ written (n * n) (tab (n * n) (λ p. get_or d p 0)) kept) where

@@ -15,7 +15,7 @@ use borrow.Author.Tests.{lt-ltb, le-ltb, ltb-true}
 use Rattle.sums.specs.Sums.{sum_to, bit}
 use Rattle.sums.specs.Tables.{cell}
 use Rattle.sums.proofs.Cases.{by_eq, by_lt}
-use Rattle.sums.proofs.Sums.{sum_all_zero, sum_bump, sum_tight}
+use Rattle.sums.proofs.Sums.{sum_all_zero, sum_bump, sum_one, sum_tight}
 use Rattle.sums.proofs.Gates.{bit_most, bit_one}
 use Rattle.sums.proofs.Tables.{length_square, square_cell}
 use Rattle.star.specs.Lines.{source_on, destination_on, crossing, line_sum, Admissible}
@@ -217,9 +217,19 @@ module _ (n : ℕ) (d : List ℕ) where
 unfoldable pub cuts : (n : ℕ) (s : Cutting) → ℕ
 cuts n s = sum_to (2 * n) (λ m. bit (ltb 0 (get_or s.done m 0)))
 
+-- at most all of them
+pub cuts_most : (n : ℕ) (s : Cutting) → cuts n s ≤ 2 * n
+unfolding cuts
+cuts_most n s = sum_one (2 * n) _ (λ m h. bit_most (ltb 0 (get_or s.done m 0)))
+
+-- at the start none
+pub cuts_none : (n : ℕ) (d : List ℕ) → cuts n (uncut n d) ≡ 0
+unfolding cuts
+cuts_none n d = sum_all_zero (2 * n) _ (λ m h. rw (uncut_flag n d m h) refl)
+
 module _ (n : ℕ) (cap : List ℕ) where
   -- one line more has been cut
-  cuts_more : (s : Cutting) (h : Sound n cap s) (ℓ : ℕ) → Smallest n cap s (2 * n) ℓ → cuts n (cut_line n cap s ℓ) ≡ cuts n s + 1
+  pub cuts_more : (s : Cutting) (h : Sound n cap s) (ℓ : ℕ) → Smallest n cap s (2 * n) ℓ → cuts n (cut_line n cap s ℓ) ≡ cuts n s + 1
   unfolding cuts
   cuts_more s h ℓ γ =
       sum_bump (2 * n) ℓ 1 _ _ γ.line

@@ -28,7 +28,6 @@ pub record Counted (n : ℕ) (s : Cutting) (a b : List ℕ) : Type 0 where
 pub record Comparable (n : ℕ) (cap a b : List ℕ) : Type 0 where
   pub nodes : n ≤ 64
   pub capacities : Capacities n cap
-  pub room : (2 * n ≤ length a) × (2 * n ≤ length b)
   pub most : (ℓ : ℕ) → ℓ < 2 * n → get_or a ℓ 0 + get_or b ℓ 0 ≤ 4194240
   pub within : (ℓ : ℕ) → ℓ < 2 * n → get_or b ℓ 0 ≤ get_or cap ℓ 0
 
@@ -58,7 +57,6 @@ pub record Smallest (n : ℕ) (cap : List ℕ) (s : Cutting) (k ℓ : ℕ) : Typ
 -- what cutting the t-th cell of a line by p/q asks
 pub record CanCutCell (n : ℕ) (kept a b : List ℕ) (ℓ t p q : ℕ) : Type 0 where
   pub square : Square n kept
-  pub room : (2 * n ≤ length a) × (2 * n ≤ length b)
   pub line : (ℓ < 2 * n) × (t < n)
   pub fraction : (p ≤ 1024) × (p < q)
   pub demand : on_line n kept ℓ t ≤ 65535

@@ -1,34 +1,42 @@
 // Which line is cut next: of those above their capacity the one with the smallest fraction (c−b)/a, c its capacity; on a tie, the lowest.
-ghost use Rattle.std.specs.Prelude.{◌*◌, ◌<◌};
+ghost use Rattle.std.specs.Prelude.{◌*◌, ◌<◌, IfSome, unwrap_or};
 ghost use Rattle.fair.specs.Cuts.{Comparable, Ahead, NextLine};
 
-// Whether a line is to be taken rather than the one found so far (2n where there is none).
-fn ahead(n: usize, cap: &[u32], a: &[u32], b: &[u32], line: usize, found: usize) -> bool
-    requires comparable { Comparable n cap.now a.now b.now }
-    requires on_line { line < 2 * n }
-    ensures { Ahead n cap.now a.now b.now line found result }
-{
-    if a[line] + b[line] <= cap[line] {
-        return false;
-    }
-    if found >= 2 * n {
-        return true;
-    }
-    (cap[line] - b[line]) * a[found] < (cap[found] - b[found]) * a[line]
+// The two sums of each line while lines are cut: of its unmodified cells, the a of its fraction, and of its modified ones, the b.
+#[derive(Drop)]
+pub struct LineSums {
+    pub unmodified: [u32; 128],
+    pub modified: [u32; 128],
 }
 
-// The line to cut next, or 2n where no line is above its capacity.
-pub fn next_line(n: usize, cap: &[u32], a: &[u32], b: &[u32]) -> usize
-    requires { Comparable n cap.now a.now b.now }
-    ensures { NextLine n cap.now a.now b.now (2 * n) result }
+// Whether a line is to be taken rather than the one found so far, if there is one.
+fn ahead(n: usize, cap: &[u32], sums: &LineSums, line: usize, found: Option<usize>) -> bool
+    requires comparable { Comparable n cap.now sums.now.unmodified sums.now.modified }
+    requires on_line { line < 2 * n }
+    requires found_on_line { IfSome found (λ best. best < 2 * n) }
+    ensures { Ahead n cap.now sums.now.unmodified sums.now.modified line (unwrap_or found (2 * n)) result }
 {
-    let mut found = 2 * n;
-    let mut line = 0;
-    while line < 2 * n {
-        if ahead(n, cap, a, b, line, found) {
-            found = line;
+    if sums.unmodified[line] + sums.modified[line] <= cap[line] {
+        return false;
+    }
+    let Some(best) = found else {
+        return true;
+    };
+    (cap[line] - sums.modified[line]) * sums.unmodified[best]
+        < (cap[best] - sums.modified[best]) * sums.unmodified[line]
+}
+
+// The line to cut next, if one is above its capacity.
+pub fn next_line(n: usize, cap: &[u32], sums: &LineSums) -> Option<usize>
+    requires { Comparable n cap.now sums.now.unmodified sums.now.modified }
+    ensures on_line { IfSome result (λ line. line < 2 * n) }
+    ensures next { NextLine n cap.now sums.now.unmodified sums.now.modified (2 * n) (unwrap_or result (2 * n)) }
+{
+    let mut found = None;
+    for line in 0..2 * n {
+        if ahead(n, cap, sums, line, found) {
+            found = Some(line);
         }
-        line += 1;
     }
     found
 }

@@ -8,13 +8,11 @@ use Rattle.sums.specs.Searches.{first_below, first_from}
 use Rattle.sums.specs.Sums.{sum_to}
 use Rattle.sums.specs.Tables.{tab, written}
 use Rattle.star.specs.declared.refusals.Refusal.TheVariants.{TableShort}
-use Rattle.star.specs.declared.refusals.Verdict.TheVariants.{Accepted}
-use Rattle.star.specs.Refusals.{Notice, notice, notice_of}
+use Rattle.star.specs.Refusals.{Accepted, Notice, notice, notice_of}
 use Rattle.star.specs.Checks.{sizes_verdict, rule_verdict, rule_and_limit_verdict, ranges_verdict, refuse, then}
 use Rattle.pieces.specs.Pieces.{join_to}
-use Rattle.files.specs.declared.output.Output.{Output}
 use Rattle.files.specs.Format.{post, frame, Scenario}
-use Rattle.files.specs.Output.{output_verdict, output_length}
+use Rattle.files.specs.Output.{Output, output_verdict, output_length}
 use Rattle.file_writer.specs.Bytes.{posts_to, entry_from, scenario_from, two_bytes, four_bytes, sizes_bytes, entry_bytes, cell_bytes, file_bytes, file_length}
 use Rattle.file_writer.specs.Writing.{first_unknown, cells_verdict, write_verdict, WriteResult}
 

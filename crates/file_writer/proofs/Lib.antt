@@ -1,7 +1,7 @@
 -- The laws of the file's bytes, of the writer's verdict and of the round trip, the theorems, and examples by computation.
+pub mod SearchLaws
 pub mod ByteLaws
 pub mod PutLaws
-pub mod WideLaws
 pub mod WriteLaws
 pub mod RoundTripLaws
 pub mod WriteTheorems

@@ -17,9 +17,9 @@ use Rattle.sums.proofs.Cases.{by_eq}
 use Rattle.sums.proofs.Tables.{tab_ext, written_first}
 use Rattle.pieces.specs.Pieces.{join_to}
 use Rattle.pieces.proofs.PieceLaws.{join_at}
-use Rattle.files.specs.declared.output.Output.TheVariants.{Bytes}
+use Rattle.files.specs.Output.{Bytes}
 use Rattle.files.specs.Format.{two, four, nodes_of, slots_of, limit_of, rule_of, entries_of, kind_of, place_of, table_end, matrix_at, post, entry_of, scenario_of}
-use Rattle.files.proofs.ReadLaws.{Good, Sound, sound_accepted, table_read}
+use Rattle.files.proofs.ReadLaws.{Good, Sound, sound_accepted, head_read}
 use Rattle.file_writer.specs.Bytes.{posts_to, cells_in, two_bytes, four_bytes, sizes_bytes, place_after, entry_bytes, cell_bytes, file_bytes, file_length, entry_from, scenario_from}
 use Rattle.file_writer.specs.Theorems.{ReadsBack}
 use Rattle.file_writer.specs.Writing.{WriteResult}
@@ -220,7 +220,7 @@ module _ (n l limit rule : ℕ) (kinds cells : List ℕ) where
         let accepted = sound_accepted (file_bytes n l limit rule kinds cells) file_sound in
         record {
           accepted = accepted;
-          answered = sym (table_read (file_bytes n l limit rule kinds cells) accepted (sym nodes_back) (sym slots_back) (sym limit_back) (sym rule_back) (sym entries_back)).answer;
+          answered = sym (head_read (file_bytes n l limit rule kinds cells) accepted (rw (nodes_back, slots_back, limit_back, rule_back, entries_back) refl)).answer;
           same_kinds = kind_back;
           same_cells = λ e c he z h. cell_back e he z c h;
           same_scenario = scenario_back;

@@ -1,23 +1,25 @@
 -- What an accepted write has passed, the verdict in numbers, and what an accepted write owes. Assumes nothing.
 use Prim.Native.Nat.{ℕ, ◌≤◌, ◌<◌}
 use native.Mathlib.Omega.{arith}
-use mathlib.Core.Path.{◌≡◌, refl, sym, ◌∙◌, ap, subst}
+use mathlib.Core.Path.{◌≡◌, refl, sym, ◌∙◌, ap, ap₂, subst}
 use mathlib.Core.List.{List}
 use lib.Dec.{ltb}
-use lib.ListN.{length, get_or, length-append}
+use Rattle.std.proofs.Common.{get_or-take}
+use lib.ListN.{length, get_or, take}
+use lib.Seq.{length-take-le}
 use borrow.Author.Tests.{ltb-false}
 use Rattle.sums.specs.Tables.{written}
 use Rattle.sums.proofs.Searches.{first_before}
-use Rattle.star.specs.declared.refusals.Verdict.TheVariants.{Accepted}
-use Rattle.star.specs.Refusals.{notice_of, Ranges}
+use Rattle.star.specs.Refusals.{Accepted, notice_of, Ranges}
 use Rattle.star.specs.Checks.{then}
 use Rattle.star.proofs.RefusalLaws.{in_numbers, passed, then_passed, group_in_numbers, promise_done, ranged, each_within, ranges_in_numbers}
-use Rattle.pieces.specs.Pieces.{Appended, join_to}
-use Rattle.pieces.proofs.PieceLaws.{appended_more, appended_front}
-use Rattle.files.specs.declared.output.Output.TheVariants as output
-use Rattle.file_writer.specs.Bytes.{posts_to, cells_in, sizes_bytes, entry_bytes, cell_bytes, file_bytes, file_length}
+use Rattle.pieces.specs.declared.Pieces.{Pieces}
+use Rattle.pieces.specs.Pieces.{Puts, join_to}
+use Rattle.pieces.proofs.PieceLaws.{puts_more, puts_front, join_ext}
+use Rattle.files.specs.Output.{Bytes}
+use Rattle.file_writer.specs.Bytes.{posts_to, cells_in, two_bytes, sizes_bytes, entry_bytes, cell_bytes, file_bytes, file_length}
 use Rattle.file_writer.specs.Writing.{first_unknown, cells_verdict, write_verdict, write_notice, WriteResult}
-use Rattle.file_writer.proofs.ByteLaws.{posts_few, cells_few, length_sizes, length_entries, length_file}
+use Rattle.file_writer.proofs.ByteLaws.{posts_few, cells_few, length_file}
 
 -- ---- what an accepted write has passed
 pub record CanWrite (n l limit rule : ℕ) (kinds cells : List ℕ) (bytes : ℕ) : Type 0 where
@@ -53,34 +55,31 @@ write_notice_lem n l limit rule kinds cells bytes =
     group_in_numbers _ _ _ _ (ranges_in_numbers _ _ _ _ _ (group_in_numbers _ _ _ _ (in_numbers _ _ _ (in_numbers _ _ _ (in_numbers _ _ _ refl)))))
 
 -- ---- what an accepted write owes: sizes, entries and cells one after the other are the file
-module _ (n l limit rule : ℕ) (kinds cells out : List ℕ) (due : write_verdict n l limit rule kinds cells (length out) ≡ Accepted) {o1 o2 o3 : List ℕ} {r1 r2 r3 count : ℕ} (a : Appended out o1 0 r1 (sizes_bytes n l limit rule (length kinds))) (b : Appended o1 o2 r1 r2 (join_to (length kinds) (entry_bytes n kinds))) (c : Appended o2 o3 r2 r3 (join_to count (cell_bytes cells))) (all : count ≡ cells_in n kinds) where
+module _ (n l limit rule : ℕ) (kinds cells : List ℕ) {out : List ℕ} {o o1 o2 o3 : Pieces} {count : ℕ} (due : write_verdict n l limit rule kinds cells (length out) ≡ Accepted) (all : count ≡ cells_in n kinds) (bytes : o.out.now ≡ out) (start : o.at ≡ 0) (a : Puts o o1 (sizes_bytes n l limit rule (length kinds))) (b : Puts o1 o2 (join_to (length kinds) (entry_bytes n kinds))) (c : Puts o2 o3 (join_to (length (take count cells)) (cell_bytes (take count cells)))) where
   can : CanWrite n l limit rule kinds cells (length out)
   can = can_write n l limit rule kinds cells (length out) due
 
-  whole : Appended out o3 0 r3 (file_bytes n l limit rule kinds cells)
-  unfolding file_bytes
-  whole =
-      let fits = can.fits in
-      let sizes = length_sizes n l limit rule (length kinds) in
-      let table = length_entries n kinds (length kinds) in
-      let both = length-append (sizes_bytes n l limit rule (length kinds)) (join_to (length kinds) (entry_bytes n kinds)) in
-      appended_more {at = 0} (omega (arith, fits, sizes, table, both)) (appended_more {at = 0} (omega (arith, fits, sizes)) a b)
-      (subst (λ k. Appended o2 o3 r2 r3 (join_to k (cell_bytes cells))) all c)
+  -- the cells of the posts are the first in the table
+  posts_cells : join_to (length (take count cells)) (cell_bytes (take count cells)) ≡ join_to (cells_in n kinds) (cell_bytes cells)
+  unfolding cell_bytes
+  posts_cells =
+      let some : length (take count cells) ≡ count = length-take-le count cells (omega (arith, can.there, all)) in
+      join_ext (length (take count cells)) (cell_bytes (take count cells)) (cell_bytes cells) (λ k h. ap two_bytes (get_or-take count cells k 0 (omega arith)))
+      ∙ ap (λ m. join_to m (cell_bytes cells)) (some ∙ all)
 
-  its_length : r3 ≡ file_length n kinds
-  its_length = omega (arith, whole.end, length_file n l limit rule kinds cells)
+  whole : Puts o o3 (file_bytes n l limit rule kinds cells)
+  unfolding file_bytes
+  whole = puts_more (puts_more a b) (subst (Puts o2 o3) posts_cells c)
+
+  its_length : o3.at ≡ file_length n kinds
+  its_length = omega (arith, start, whole.put.end, length_file n l limit rule kinds cells)
 
   -- a file has at most 33,587,220 bytes
-  pub write_fits : r3 ≤ 33587220
+  pub write_fits : o3.at ≤ 33587220
   write_fits =
       omega (arith, its_length, can.few, cells_few n (posts_to kinds (length kinds)) can.ranges.sizes.nodes (omega (arith, can.few, posts_few kinds (length kinds))))
 
-  pub write_done : WriteResult n l limit rule kinds cells out o3 (output.Bytes r3)
-  write_done =
-      promise_done (sym due) (write_notice_lem n l limit rule kinds cells (length out)) out o3 refl
-      (record {
-        size = its_length;
-        bytes =
-            appended_front out o3 (file_bytes n l limit rule kinds cells) r3 whole
-            ∙ ap (λ k. written k (file_bytes n l limit rule kinds cells) out) (length_file n l limit rule kinds cells);
-      })
+  pub write_done : {last : List ℕ} → last ≡ o3.out.now → WriteResult n l limit rule kinds cells out last (Bytes o3.at)
+  write_done {last} e =
+      promise_done (sym due) (write_notice_lem n l limit rule kinds cells (length out)) out last refl
+      (record { size = its_length; bytes = e ∙ puts_front start whole ∙ ap₂ (λ k before. written k (file_bytes n l limit rule kinds cells) before) (length_file n l limit rule kinds cells) bytes })

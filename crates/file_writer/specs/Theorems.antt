@@ -1,11 +1,9 @@
 -- What follows from the promise of `write_file`, as statements; their proofs are in proofs/WriteTheorems.antt.
 use Rattle.std.specs.Prelude.{ℕ, ◌+◌, ◌*◌, ◌<◌, ◌≡◌, List, length, get_or, take}
-use Rattle.star.specs.declared.refusals.Verdict.TheVariants.{Accepted}
-use Rattle.files.specs.declared.reading.Reading.TheVariants.{Table}
+use Rattle.star.specs.Refusals.{Accepted}
 use Rattle.files.specs.Format.{two, kind_of, place_of, scenario_of}
-use Rattle.files.specs.Reading.{read_verdict, read_answer}
-use Rattle.files.specs.declared.output.Output.{Output}
-use Rattle.files.specs.declared.output.Output.TheVariants.{Bytes}
+use Rattle.files.specs.Output.{Output, Bytes}
+use Rattle.files.specs.Reading.{Table, read_verdict, read_answer}
 use Rattle.file_writer.specs.Bytes.{posts_to, scenario_from}
 use Rattle.file_writer.specs.Writing.{WriteResult}
 

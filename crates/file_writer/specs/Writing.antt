@@ -3,12 +3,9 @@ use Rattle.std.specs.Prelude.{ℕ, ◌≡◌, List, ltb, length, get_or}
 use Rattle.sums.specs.Searches.{first_below}
 use Rattle.sums.specs.Tables.{written}
 use Rattle.star.specs.declared.refusals.Refusal.TheVariants.{BadFile, DemandShort, TableShort, DemandAbove}
-use Rattle.star.specs.declared.refusals.Verdict.{Verdict}
-use Rattle.star.specs.declared.refusals.Verdict.TheVariants.{Accepted}
-use Rattle.star.specs.Refusals.{Notice, accepted, check, Promise, nodes_out, slots_out, rule_out, limit_out, short, some_cell, first_above_in}
+use Rattle.star.specs.Refusals.{Verdict, Accepted, Notice, accepted, check, Promise, nodes_out, slots_out, rule_out, limit_out, short, some_cell, first_above_in}
 use Rattle.star.specs.Checks.{ranges_verdict, refuse, then}
-use Rattle.files.specs.declared.output.Output.{Output}
-use Rattle.files.specs.Output.{output_verdict, output_length}
+use Rattle.files.specs.Output.{Output, output_verdict, output_length}
 use Rattle.file_writer.specs.Bytes.{cells_in, file_bytes, file_length}
 
 -- the first entry, from 0, with an unknown kind, neither 0 nor 1; or the number of entries

@@ -1,67 +1,47 @@
-// The file's bytes, piece by piece. Each function writes from `at` on, or from the front, and gives the place after what it wrote; each asks that
-// it fits.
-ghost use Rattle.std.specs.Prelude.{◌≡◌, ℕ, ◌+◌, ◌*◌, ◌≤◌, ◌<◌, eqb, length, get_or};
-ghost use Rattle.sums.specs.Sums.{bit};
-ghost use Rattle.pieces.specs.Pieces.{Appended, join_to};
+// The file's bytes, piece by piece. Each function puts a piece behind those before it, and asks that it fits. The rule and the kinds stay the numbers that
+// C lends, which the file has too; no list of kinds can be made of them without memory of its own.
+#![tactic(auto, unfolding(crate::specs::Bytes::two_bytes, crate::specs::Bytes::four_bytes, crate::specs::Bytes::sizes_bytes))]
+
+ghost use Rattle.std.specs.Prelude.{◌≡◌, ℕ, ◌*◌, ◌≤◌, ◌<◌, length, get_or};
+ghost use Rattle.pieces.specs.Pieces.{HasRoom, Puts, join_to};
 ghost use Rattle.file_writer.specs.Bytes.{posts_to, two_bytes, four_bytes, sizes_bytes, place_after, entry_bytes, cell_bytes};
 
-use pieces::put_byte;
+use pieces::Pieces;
 
 // A number of two bytes, low byte first.
-fn put_two(out: &mut [u8], at: usize, x: u32) -> usize
-    requires { (x ≤ 65535) × (at + 2 ≤ length out.old) }
-    ensures { Appended out.old out.new at result (two_bytes x) }
+fn put_two(file: &mut Pieces, x: u32)
+    requires small { x ≤ 65535 }
+    requires room { HasRoom file.old 2 }
+    ensures { Puts file.old file.new (two_bytes x) }
 {
-    let next = put_byte(out, at, (x % 256) as u8);
-    put_byte(out, next, (x / 256) as u8)
+    file.put_bytes(&(x as u16).to_le_bytes());
 }
 
 // A number of four bytes.
-fn put_four(out: &mut [u8], at: usize, x: u32) -> usize
-    requires { at + 4 ≤ length out.old }
-    ensures { Appended out.old out.new at result (four_bytes x) }
+fn put_four(file: &mut Pieces, x: u32)
+    requires { HasRoom file.old 4 }
+    ensures { Puts file.old file.new (four_bytes x) }
 {
-    let next = put_two(out, at, x % 65536);
-    put_two(out, next, x / 65536)
+    file.put_bytes(&x.to_le_bytes());
 }
 
 // N, L, B, the rule and the number of entries.
-pub fn put_sizes(
-    out: &mut [u8],
-    nodes: u32,
-    slots: u32,
-    limit: u32,
-    rule: u32,
-    entries: u32,
-) -> usize
-    requires { 20 ≤ length out.old }
-    ensures { Appended out.old out.new 0 result (sizes_bytes nodes slots limit rule entries) }
+pub fn put_sizes(file: &mut Pieces, nodes: u32, slots: u32, limit: u32, rule: u32, entries: u32)
+    requires { HasRoom file.old 20 }
+    ensures { Puts file.old file.new (sizes_bytes nodes slots limit rule entries) }
 {
-    let after_nodes = put_four(out, 0, nodes);
-    let after_slots = put_four(out, after_nodes, slots);
-    let after_limit = put_four(out, after_slots, limit);
-    let after_rule = put_four(out, after_limit, rule);
-    put_four(out, after_rule, entries)
+    put_four(file, nodes);
+    put_four(file, slots);
+    put_four(file, limit);
+    put_four(file, rule);
+    put_four(file, entries);
 }
 
-// 1 for a post, and 0 for any other kind.
-fn is_post(kind: u32) -> usize
-    ensures { result ≡ bit (eqb kind 0) }
-{
-    if kind == 0 { 1 } else { 0 }
-}
-
-// How many entries are posts.
+// How many entries are posts: of kind 0. Kinds are numbers here, as C gives them; to make each a `Kind` would bring an error that cannot come.
 pub fn count_posts(kinds: &[u32]) -> usize
     ensures { result ≡ posts_to kinds.now (length kinds.now) }
 {
-    let mut posts = 0;
-    let mut e = 0;
-    while e < kinds.len() {
-        posts += is_post(kinds[e]);
-        e += 1;
-    }
-    posts
+    kinds.iter().filter(|kind| **kind == 0).count()
 }
 
 // Where the matrix of an entry of this kind stands after so many posts.
@@ -77,33 +57,26 @@ fn place_after(n: usize, entries: usize, posts: usize, kind: u32) -> u32
 }
 
 // The kind and place of each entry.
-pub fn put_entries(out: &mut [u8], at: usize, n: usize, kinds: &[u32]) -> usize
-    requires { (n ≤ 64) × (length kinds.now ≤ 4096) × (at + 8 * length kinds.now ≤ length out.old) }
-    ensures { Appended out.old out.new at result (join_to (length kinds.now) (entry_bytes n kinds.now)) }
+pub fn put_entries(file: &mut Pieces, n: usize, kinds: &[u32])
+    requires few { (n ≤ 64) × (length kinds.now ≤ 4096) }
+    requires room { HasRoom file.old (8 * length kinds.now) }
+    ensures { Puts file.old file.new (join_to (length kinds.now) (entry_bytes n kinds.now)) }
 {
-    let mut next = at;
     let mut posts = 0;
-    let mut e = 0;
-    while e < kinds.len() {
-        let kind = kinds[e];
-        let middle = put_four(out, next, kind);
-        next = put_four(out, middle, place_after(n, kinds.len(), posts, kind));
-        posts += is_post(kind);
-        e += 1;
+    for kind in kinds {
+        put_four(file, *kind);
+        put_four(file, place_after(n, kinds.len(), posts, *kind));
+        posts += usize::from(*kind == 0);
     }
-    next
 }
 
-// So many cells.
-pub fn put_cells(out: &mut [u8], at: usize, cells: &[u32], count: usize) -> usize
-    requires { (count ≤ length cells.now) × (at + 2 * count ≤ length out.old) × ((c : ℕ) → c < count → get_or cells.now c 0 ≤ 65535) }
-    ensures { Appended out.old out.new at result (join_to count (cell_bytes cells.now)) }
+// The cells of all posts.
+pub fn put_cells(file: &mut Pieces, cells: &[u32])
+    requires small { (c : ℕ) → c < length cells.now → get_or cells.now c 0 ≤ 65535 }
+    requires room { HasRoom file.old (2 * length cells.now) }
+    ensures { Puts file.old file.new (join_to (length cells.now) (cell_bytes cells.now)) }
 {
-    let mut next = at;
-    let mut c = 0;
-    while c < count {
-        next = put_two(out, next, cells[c]);
-        c += 1;
+    for cell in cells {
+        put_two(file, *cell);
     }
-    next
 }

@@ -1,72 +1,49 @@
 // Writing a file: its length, or the first refusal.
-ghost use Rattle.std.specs.Prelude.{◌≡◌, ◌*◌, ◌≤◌, length};
-ghost use Rattle.star.specs.Refusals.{first_above_in};
-ghost use Rattle.file_writer.specs.Writing.{first_unknown, cells_verdict, write_verdict, WriteResult};
+#![tactic(auto, unfolding(crate::specs::Writing::cells_verdict, crate::specs::Writing::write_verdict, star::specs::Checks::refuse, star::specs::Checks::then))]
+
+ghost use Rattle.std.specs.Prelude.{◌≡◌, ◌≤◌, ltb, length, position};
+ghost use Rattle.file_writer.specs.Writing.{cells_verdict, write_verdict, WriteResult};
 
 use crate::bytes::{count_posts, put_cells, put_entries, put_sizes};
-use files::output::Output;
+use files::kinds::Kind;
+use pieces::Pieces;
 use star::checks::ranges;
-use star::lines::first_above;
-use star::refusals::{Refusal, Verdict};
+use star::refusals::Refusal;
 
-// The first entry of an unknown kind, or the number of entries.
-fn first_unknown(kinds: &[u32]) -> usize
-    ensures { result ≡ first_unknown kinds.now }
+// The first entry of an unknown kind.
+fn first_unknown(kinds: &[u32]) -> Option<usize>
+    ensures { result ≡ position (λ kind. ltb 1 kind) kinds.now }
 {
-    let mut e = 0;
-    while e < kinds.len() {
-        if kinds[e] > 1 {
-            return e;
-        }
-        e += 1;
-    }
-    e
+    kinds.iter().position(|kind| Kind::try_from(*kind).is_err())
 }
 
-// The first of the posts' cells that is above 65,535, as its place among all of them, or their number: one matrix after the other.
-fn first_wide(n: usize, posts: usize, cells: &[u32]) -> usize
-    requires { (n ≤ 64) × (posts * (n * n) ≤ length cells.now) }
-    ensures { result ≡ first_above_in (posts * (n * n)) cells.now }
+// The first of these cells that is above 65,535.
+fn first_wide(cells: &[u32]) -> Option<usize>
+    ensures { result ≡ position (λ cell. ltb 65535 cell) cells.now }
 {
-    let mut p = 0;
-    while p < posts {
-        let at = p * (n * n);
-        let c = first_above(n, &cells[at..]);
-        if c < n * n {
-            return at + c;
-        }
-        p += 1;
-    }
-    p * (n * n)
+    cells.iter().position(|cell| *cell > 65535)
 }
 
 // Missing cells (4), too few bytes (5), a cell above 65,535 (6).
-fn cells_verdict(n: usize, kinds: &[u32], cells: &[u32], bytes: usize) -> Verdict
+fn cells_verdict(n: usize, kinds: &[u32], cells: &[u32], bytes: usize) -> Result<(), Refusal>
     requires { (n ≤ 64) × (length kinds.now ≤ 4096) }
     ensures { result ≡ cells_verdict n kinds.now cells.now bytes }
 {
-    let posts = count_posts(kinds);
-    let count = posts * (n * n);
+    let count = count_posts(kinds) * (n * n);
     if cells.len() < count {
-        return Verdict::Refused {
-            refusal: Refusal::DemandShort,
-        };
+        return Err(Refusal::DemandShort);
     }
     if bytes < 20 + 8 * kinds.len() + 2 * count {
-        return Verdict::Refused {
-            refusal: Refusal::TableShort,
-        };
+        return Err(Refusal::TableShort);
     }
-    let wide = first_wide(n, posts, cells);
-    if wide < count {
-        return Verdict::Refused {
-            refusal: Refusal::DemandAbove { cell: wide as u32 },
-        };
+    match first_wide(&cells[..count]) {
+        Some(cell) => Err(Refusal::DemandAbove { cell: cell as u32 }),
+        None => Ok(()),
     }
-    Verdict::Accepted
 }
 
-// Which refusal is given, if any; the last number says how many bytes are lent.
+// Which refusal is given, if any; the last number says how many bytes are lent. The numbers come one by one, as `write_file` is given them: a struct
+// would be made for this one call alone.
 fn write_verdict(
     nodes: u32,
     slots: u32,
@@ -75,31 +52,23 @@ fn write_verdict(
     kinds: &[u32],
     cells: &[u32],
     bytes: usize,
-) -> Verdict
+) -> Result<(), Refusal>
     ensures { result ≡ write_verdict nodes slots limit rule kinds.now cells.now bytes }
 {
-    let entries = kinds.len();
-    if entries > 4096 {
-        return Verdict::Refused {
-            refusal: Refusal::BadFile { entry: 0 },
-        };
+    if kinds.len() > 4096 {
+        return Err(Refusal::BadFile { entry: 0 });
     }
-    let v = ranges(nodes, slots, rule, limit);
-    let Verdict::Accepted = v else {
-        return v;
-    };
-    let unknown = first_unknown(kinds);
-    if unknown < entries {
-        return Verdict::Refused {
-            refusal: Refusal::BadFile {
-                entry: unknown as u32,
-            },
-        };
+    ranges(nodes, slots, rule, limit)?;
+    if let Some(entry) = first_unknown(kinds) {
+        return Err(Refusal::BadFile {
+            entry: entry as u32,
+        });
     }
     cells_verdict(nodes as usize, kinds, cells, bytes)
 }
 
-// Writes the file of the tables and gives its length; bytes behind it are as before. A refusal, in the order of `write_notice`, writes nothing.
+// Writes the file of the tables and gives its length; bytes behind it are as before. A refusal, in the order of `write_notice`, writes nothing. The
+// rule and the kinds are numbers, as C gives them, so that an unknown one can be refused.
 pub fn write_file(
     nodes: u32,
     slots: u32,
@@ -108,17 +77,15 @@ pub fn write_file(
     kinds: &[u32],
     cells: &[u32],
     out: &mut [u8],
-) -> Output
+) -> Result<u32, Refusal>
     ensures { WriteResult nodes slots limit rule kinds.now cells.now out.old out.new result }
 {
-    let v = write_verdict(nodes, slots, limit, rule, kinds, cells, out.len());
-    if let Verdict::Refused { refusal } = v {
-        return Output::Refused { refusal: refusal };
-    }
+    write_verdict(nodes, slots, limit, rule, kinds, cells, out.len())?;
     let n = nodes as usize;
-    let after_sizes = put_sizes(out, nodes, slots, limit, rule, kinds.len() as u32);
-    let after_entries = put_entries(out, after_sizes, n, kinds);
     let count = count_posts(kinds) * (n * n);
-    let end = put_cells(out, after_entries, cells, count);
-    Output::Bytes { length: end as u32 }
+    let mut file = Pieces::new(out);
+    put_sizes(&mut file, nodes, slots, limit, rule, kinds.len() as u32);
+    put_entries(&mut file, n, kinds);
+    put_cells(&mut file, &cells[..count]);
+    Ok(file.length() as u32)
 }

@@ -9,12 +9,13 @@ use Rattle.sums.specs.Searches.{first_below, first_from}
 use Rattle.sums.specs.Tables.{tab}
 use Rattle.star.specs.declared.refusals.Refusal.TheVariants.{BadFile, TableShort}
 use Rattle.star.specs.Refusals.{verdict_number, verdict_place, notice, accepted, check}
+use Rattle.std.specs.Prelude.{Err}
 use Rattle.star.specs.Checks.{sizes_verdict, rule_verdict, rule_and_limit_verdict, ranges_verdict, refuse, then}
-use Rattle.files.specs.declared.reading.Reading.TheVariants.{Table}
-use Rattle.files.specs.declared.output.Output.TheVariants as output
 use Rattle.files.specs.Format.{two, four, kind_of, place_of, matrix_at, post, frame, entry_of, scenario_of}
-use Rattle.files.specs.Output.{output_verdict, output_length}
-use Rattle.files.specs.Reading.{table_bad, matrix_out, entry_bad_of, entry_bad, first_bad, read_verdict, read_notice, read_answer}
+use Rattle.files.specs.declared.kinds.Kind.TheVariants.{Post, Frame}
+use Rattle.files.specs.Kinds.{kind_number}
+use Rattle.files.specs.Output.{Bytes, output_verdict, output_length}
+use Rattle.files.specs.Reading.{table_bad, matrix_out, entry_bad_of, entry_bad, first_bad, Table, read_verdict, read_notice, read_answer}
 
 -- ---- numbers
 -- Low bytes come first: the second byte counts 256.
@@ -86,6 +87,9 @@ between = refl
 frames : map (entry_bad_of 2 1 36 1) (0 ∷ 1 ∷ 28 ∷ 16777216 ∷ []) ≡ false ∷ true ∷ true ∷ true ∷ []
 frames = refl
 
+kind_numbers : map kind_number (Post ∷ Frame ∷ []) ≡ 0 ∷ 1 ∷ []
+kind_numbers = refl
+
 kinds : map (λ kind. entry_bad_of 2 1 36 kind 0) (1 ∷ 2 ∷ 256 ∷ []) ≡ false ∷ true ∷ true ∷ []
 kinds = refl
 
@@ -111,8 +115,8 @@ unfolding read_notice table_bad first_bad entry_bad kind_of place_of four two ch
 numbers_order = refl
 
 -- ---- calls that write bytes
-output_lengths : map output_length (output.Bytes 56 ∷ output.Refused TableShort ∷ []) ≡ 56 ∷ 0 ∷ []
+output_lengths : map output_length (Bytes 56 ∷ Err TableShort ∷ []) ≡ 56 ∷ 0 ∷ []
 output_lengths = refl
 
-output_numbers : map (λ f. verdict_number (output_verdict f)) (output.Bytes 56 ∷ output.Refused (BadFile 3) ∷ []) ≡ 0 ∷ 10 ∷ []
+output_numbers : map (λ f. verdict_number (output_verdict f)) (Bytes 56 ∷ Err (BadFile 3) ∷ []) ≡ 0 ∷ 10 ∷ []
 output_numbers = refl

@@ -4,38 +4,23 @@ use native.Mathlib.Omega.{arith}
 use mathlib.Core.Path.{◌≡◌, refl, sym, ◌∙◌, ap}
 use mathlib.Core.Bool.{true, false, not}
 use mathlib.Core.List.{List}
+use Rattle.std.specs.Prelude.{Ok, Err}
 use lib.Dec.{ltb, eqb}
 use lib.ListN.{length}
-use borrow.Author.Tests.{ltb-false, lt-ltb, le-ltb, eq-eqb, ne_eqb, eqb-true, not-false}
+use borrow.Author.Tests.{ltb-false, le-ltb, eq-eqb, ne_eqb, eqb-true, not-false}
 use Rattle.sums.proofs.Cases.{by_eq}
 use Rattle.sums.proofs.Searches.{first_before, first_none}
 use Rattle.star.specs.declared.refusals.Refusal.{Refusal}
 use Rattle.star.specs.declared.refusals.Refusal.TheVariants.{BadFile}
-use Rattle.star.specs.declared.refusals.Verdict.{Verdict}
-use Rattle.star.specs.declared.refusals.Verdict.TheVariants.{Accepted, Refused}
-use Rattle.star.specs.Refusals.{notice_of, Ranges}
+use Rattle.star.specs.Refusals.{Verdict, Accepted, Refused, notice_of, Ranges}
 use Rattle.star.specs.Checks.{then}
 use Rattle.star.proofs.RefusalLaws.{passes, in_numbers, passed, then_goes, then_passed, group_in_numbers, neither, neither_of, ranges_fit, ranged, ranges_in_numbers}
-use Rattle.files.specs.declared.reading.Reading.{Reading}
-use Rattle.files.specs.declared.reading.Reading.TheVariants.{Table}
-use Rattle.files.specs.declared.reading.Reading.TheVariants as reading
+use Rattle.files.specs.declared.reading.Head.{Head}
 use Rattle.files.specs.Format.{nodes_of, slots_of, limit_of, rule_of, entries_of, kind_of, place_of, table_end}
-use Rattle.files.specs.Reading.{table_bad, entry_bad_of, entry_bad, first_bad, read_verdict, read_notice, reading_verdict, read_answer, ReadResult}
+use Rattle.files.specs.Reading.{Reading, head_of, table_bad, entry_bad_of, entry_bad, first_bad, read_verdict, read_notice, reading_verdict, read_answer, ReadResult}
 
 -- ---- the table
 module _ (file : List ℕ) where
-  pub table_cut : length file < 20 → table_bad file ≡ true
-  unfolding table_bad
-  table_cut h = simp (lt-ltb (length file) 20 h)
-
-  pub table_many : 20 ≤ length file → 4096 < entries_of file → table_bad file ≡ true
-  unfolding table_bad
-  table_many h m = simp (le-ltb (length file) 20 h, lt-ltb 4096 (entries_of file) m)
-
-  pub table_rest : 20 ≤ length file → entries_of file ≤ 4096 → table_bad file ≡ ltb (length file) (table_end (entries_of file))
-  unfolding table_bad
-  table_rest h m = simp (le-ltb (length file) 20 h, le-ltb 4096 (entries_of file) m)
-
   -- a whole table
   pub record Whole : Type 0 where
     pub head : 20 ≤ length file
@@ -56,12 +41,6 @@ module _ (n entries size kind at : ℕ) where
 
   pub kind_bad : 1 < kind → entry_bad_of n entries size kind at ≡ true
   kind_bad h = simp (ne_eqb kind 0 (λ e. omega arith), ne_eqb kind 1 (λ e. omega arith))
-
-  pub post_low : kind ≡ 0 → at < table_end entries → entry_bad_of n entries size kind at ≡ true
-  post_low e h = rw e (simp (lt-ltb at (table_end entries) h))
-
-  pub post_high : kind ≡ 0 → table_end entries ≤ at → entry_bad_of n entries size kind at ≡ ltb size (at + 2 * (n * n))
-  post_high e h = rw e (simp (le-ltb at (table_end entries) h))
 
   -- a post whose matrix lies wholly between the table and the file's end, or a frame
   pub record Good : Type 0 where
@@ -120,17 +99,16 @@ read_notice_lem file = group_in_numbers _ _ _ _ (ranges_in_numbers _ _ _ _ _ (in
 
 answer_verdict : (v : Verdict) (file : List ℕ) → reading_verdict (read_answer v file) ≡ v
 unfolding read_answer
-answer_verdict Accepted file = refl
-answer_verdict (Refused r) file = refl
+answer_verdict (Ok _) file = refl
+answer_verdict (Err r) file = refl
 
 read_result : (file : List ℕ) {r : Reading} → r ≡ read_answer (read_verdict file) file → ReadResult file r
 read_result file e = record { answer = e; notice = ap notice_of (ap reading_verdict e ∙ answer_verdict (read_verdict file) file) ∙ read_notice_lem file }
 
-pub table_read : (file : List ℕ) {n l limit rule entries : ℕ} → read_verdict file ≡ Accepted → n ≡ nodes_of file → l ≡ slots_of file → limit ≡ limit_of file → rule ≡ rule_of file →
-    entries ≡ entries_of file → ReadResult file (Table n l limit rule entries)
+pub head_read : (file : List ℕ) {h : Head} → read_verdict file ≡ Accepted → h ≡ head_of file → ReadResult file (Ok h)
 unfolding read_answer
-table_read file e hn hl hb hr he = read_result file (rw (e, hn, hl, hb, hr, he) refl)
+head_read file e is = read_result file (rw (e, is) refl)
 
-pub refusal_read : (file : List ℕ) {r : Refusal} → read_verdict file ≡ Refused r → ReadResult file (reading.Refused r)
+pub refusal_read : (file : List ℕ) {r : Reading} {x : Refusal} → r ≡ Err x → read_verdict file ≡ Refused x → ReadResult file r
 unfolding read_answer
-refusal_read file e = read_result file (rw e refl)
+refusal_read file is e = read_result file (is ∙ rw e refl)

@@ -3,7 +3,6 @@ use Rattle.std.specs.Prelude.{ℕ, ◌+◌, ◌*◌, ◌≤◌, ◌<◌, ◌≡�
 use Rattle.sums.specs.Tables.{cell}
 use Rattle.growth.specs.Growth.{Below, SpansKept}
 use Rattle.growth.specs.Sides.{Sides}
-use Rattle.walks.specs.Paths.{PathLists}
 
 -- a matrix of zeros, to begin with
 pub record Empty (n : ℕ) (bound a headroom marks : List ℕ) : Type 0 where
@@ -12,9 +11,8 @@ pub record Empty (n : ℕ) (bound a headroom marks : List ℕ) : Type 0 where
   pub headrooms : 2 * n ≤ length headroom
   pub lines : 2 * n ≤ length marks
 
-pub record CanGrow (n : ℕ) (bound a headroom offers takers rows columns at to marks : List ℕ) : Type 0 where
+pub record CanGrow (n : ℕ) (bound a headroom offers takers marks : List ℕ) : Type 0 where
   pub sides : Sides n bound a offers takers
-  pub lists : PathLists n rows columns at to 0
   pub headrooms : 2 * n ≤ length headroom
   pub lines : 2 * n ≤ length marks
 

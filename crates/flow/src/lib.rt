@@ -11,18 +11,29 @@ use growth::fill::fill;
 use growth::sides::open_lines;
 use layers::mark;
 use star::tables::clear;
+use walks::lists::Partners;
 
 // From a matrix of zeros, with lists for the sets: at first every row can give where its bound is at least 1, and no column takes.
 fn largest_from(n: usize, bound: &[u32], a: &mut [u32], headroom: &mut [u32], marks: &mut [u8])
     requires { Empty n bound.now a.old headroom.old marks.old }
     ensures { Grown n bound.now a.old headroom.old a.new headroom.new marks.new }
 {
-    let mut offers = [0u64; 64];
-    let mut takers = [0u64; 64];
-    at_least::rows(n, bound, 1, &mut offers);
+    let mut partners = Partners {
+        offers: [0; 64],
+        takers: [0; 64],
+    };
+    at_least::rows(n, bound, 1, &mut partners.offers);
     let rows = open_lines(n, headroom, 0);
-    fill(n, bound, a, headroom, &mut offers, &mut takers, rows);
-    grow(n, bound, a, headroom, &mut offers, &mut takers, marks);
+    fill(
+        n,
+        bound,
+        a,
+        headroom,
+        &mut partners.offers,
+        &mut partners.takers,
+        rows,
+    );
+    grow(n, bound, a, headroom, &mut partners, marks);
 }
 
 // The same. Where no row has headroom, or no column, there is nothing to do: no line is reached, or every line may be.

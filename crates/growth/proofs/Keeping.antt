@@ -18,20 +18,11 @@ kept_none n a headroom = record { spans = λ ℓ q. refl }
 pub kept_join : {n : ℕ} {a headroom a₁ headroom₁ a₂ headroom₂ : List ℕ} → SpansKept n a headroom a₁ headroom₁ → SpansKept n a₁ headroom₁ a₂ headroom₂ → SpansKept n a headroom a₂ headroom₂
 kept_join k l = record { spans = λ ℓ q. l.spans ℓ q ∙ k.spans ℓ q }
 
-pub grew_none : {n : ℕ} {bound a offers takers : List ℕ} (headroom : List ℕ) → Sides n bound a offers takers → Grew n bound a headroom a headroom offers takers
-grew_none {n} {bound} {a} headroom s = record { sides = s; kept = kept_none n a headroom }
-
-pub grew_join : {n : ℕ} {bound a headroom a₁ headroom₁ offers₁ takers₁ a₂ headroom₂ offers₂ takers₂ : List ℕ} → Grew n bound a headroom a₁ headroom₁ offers₁ takers₁ → Grew n bound a₁ headroom₁ a₂ headroom₂ offers₂ takers₂ → Grew n bound a headroom a₂ headroom₂ offers₂ takers₂
-grew_join f g = record { sides = g.sides; kept = kept_join f.kept g.kept }
-
 -- ---- headroom that is written as it was
 pub set_same : (l : List ℕ) (p : ℕ) → set l p (get_or l p 0) ≡ l
 set_same [] p = refl
 set_same (x ∷ l) zero = refl
 set_same (x ∷ l) (suc p) = ap (λ (m : List ℕ). x ∷ m) (set_same l p)
-
-pub grew_start : {n : ℕ} {bound a offers takers : List ℕ} (headroom : List ℕ) (p : ℕ) → Sides n bound a offers takers → Grew n bound a headroom a (set headroom p (get_or headroom p 0)) offers takers
-grew_start headroom p s = rw (set_same headroom p) (grew_none headroom s)
 
 -- row i and column j have x more, and x less headroom; the column's headroom is `want`
 module _ (n : ℕ) (a headroom a' : List ℕ) (i j want x : ℕ) (hi : i < n) (hj : j < n) (headrooms : 2 * n ≤ length headroom) (row : x ≤ get_or headroom i 0) (column : x ≤ want) where

@@ -1,32 +1,18 @@
 -- Sets that are filled node by node; lists of sets of which one changes at one node; what is left of a set whose first node is taken out. Assumes nothing.
-use Prim.Native.Nat.{ℕ, min, ◌+◌, ◌≤◌, ◌<◌}
+use Prim.Native.Nat.{ℕ, min, ◌≤◌, ◌<◌}
 use native.Mathlib.Omega.{arith}
 use mathlib.Core.Path.{◌≡◌, ◌∙◌, ap}
-use mathlib.Core.Bool.{Bool, true, false}
 use mathlib.Core.List.{List}
 use lib.ListN.{length, get_or, set}
 use lib.Seq.{get_or-set_same, get_or-set_other}
-use Rattle.sums.proofs.Cases.{by_eq, by_test}
-use Rattle.nodes.specs.Sets.{member, size, None, WithWhere, Without, First}
+use Rattle.sums.proofs.Cases.{by_eq}
+use Rattle.nodes.specs.Sets.{member, size, Without, First}
 use Rattle.nodes.proofs.Sizes.{size_without}
 
 -- ---- a set that is filled from 0 up
 pub record Scan (f : ℕ → ℕ) (s k : ℕ) : Type 0 where
   pub done : (m : ℕ) → m < k → member m s ≡ min 1 (f m)
   pub rest : (m : ℕ) → k ≤ m → member m s ≡ 0
-
-pub scan_start : (f : ℕ → ℕ) (s : ℕ) → None s → Scan f s 0
-scan_start f s z = record { done = λ m lt. absurd (omega arith); rest = λ m le. z.out m }
-
-pub scan_step : (f : ℕ → ℕ) (s k r : ℕ) (t : Bool) → Scan f s k → (t ≡ true → 0 < f k) → (t ≡ false → f k ≡ 0) → WithWhere s k t r → Scan f r (k + 1)
-scan_step f s k r t S yes' no' w = record {
-  done = λ m lt. by_eq m k
-      (λ e. rw e (by_test t
-      (λ p. omega (arith, w.added p, yes' p))
-      (λ p. omega (arith, w.left p, no' p, S.rest k (omega arith)))))
-      (λ ne. w.other m ne ∙ S.done m (omega arith));
-  rest = λ m le. w.other m (λ e. omega arith) ∙ S.rest m (omega arith);
-}
 
 -- ---- a list of sets of which the one at p changes at node q alone
 module _ (l : List ℕ) (p q w : ℕ) (fits : p < length l) where

@@ -4,8 +4,6 @@ ghost use Rattle.std.specs.Prelude.{◌*◌, ◌<◌, ◌≤◌, length};
 ghost use Rattle.growth.specs.Sides.{Sides, Grew, GrewAt};
 
 use crate::sides::more;
-use arrays::lists;
-use star::numbers::smaller;
 use star::tables::get;
 
 // Row i gives column j what their bound, the row's headroom and what the column wants allow. Gives how much that is.
@@ -25,7 +23,7 @@ fn fill_at(
     ensures { GrewAt n bound.now a.old headroom.old a.new headroom.new offers.new takers.new i j want result }
 {
     let spare = get(n, bound, i, j) - get(n, a, i, j);
-    let x = smaller(spare, smaller(headroom[i], want));
+    let x = spare.min(headroom[i]).min(want);
     if x == 0 {
         return 0;
     }
@@ -35,6 +33,7 @@ fn fill_at(
 }
 
 // Column j takes from some rows while it has headroom. Says which rows may still have headroom, of those that may have had.
+#[tactic(auto, using(crate::proofs::SetLaws::left_falls))]
 fn fill_some(
     n: usize,
     bound: &[u32],
@@ -61,10 +60,9 @@ fn fill_some(
         todo = nodes::without(todo, i);
         let x = fill_at(n, bound, a, headroom, offers, takers, i, j, want);
         want -= x;
-        if headroom[i] > 0 {
-            continue;
+        if headroom[i] == 0 {
+            left = nodes::without(left, i);
         }
-        left = nodes::without(left, i);
     }
     headroom[n + j] = want;
     left
@@ -86,13 +84,11 @@ pub fn fill(
 {
     let mut left = rows;
     let mut late = nodes::all();
-    let mut j = 0;
-    while j < n {
-        let here = nodes::both(nodes::both(lists::set_at(offers, j), left), late);
+    for j in 0..n {
+        let here = nodes::both(nodes::both(offers[j], left), late);
         left = fill_some(n, bound, a, headroom, offers, takers, j, here, left);
-        let rest = nodes::minus(nodes::both(lists::set_at(offers, j), left), late);
+        let rest = nodes::minus(nodes::both(offers[j], left), late);
         left = fill_some(n, bound, a, headroom, offers, takers, j, rest, left);
         late = nodes::without(late, j);
-        j += 1;
     }
 }

@@ -1,10 +1,10 @@
 // Who can give more, and who takes, as sets of nodes: `offers` has for each column the rows that can give it more, `takers` for each row the columns that
-// take from it.
+// take from it. They are two parameters throughout: `fill` takes lists of any length, which a pair of arrays would not be; and of a struct of two borrowed
+// lists each contract would have to say that it still borrows the same two.
 ghost use Rattle.std.specs.Prelude.{ℕ, ◌+◌, ◌≤◌, List, length};
 ghost use Rattle.star.specs.Rooms.{Square};
 ghost use Rattle.growth.specs.Sides.{Sides, OpenLines, CanMore, CanLess, More, Less};
 
-use arrays::lists;
 use star::tables::{get, put};
 
 // The open lines, those with headroom, of the n lines from line `from` on.
@@ -13,10 +13,8 @@ pub fn open_lines(n: usize, headroom: &[u32], from: usize) -> u64
     ensures { OpenLines n headroom.now from result }
 {
     let mut s = nodes::none();
-    let mut k = 0;
-    while k < n {
+    for k in 0..n {
         s = nodes::with_where(s, k, headroom[from + k] > 0);
-        k += 1;
     }
     s
 }
@@ -39,11 +37,11 @@ pub fn more(
     let most = get(n, bound, i, j);
     let y = get(n, a, i, j) + x;
     put(n, a, i, j, y);
-    lists::put_set(takers, i, nodes::with(lists::set_at(takers, i), j));
+    takers[i] = nodes::with(takers[i], j);
     if y < most {
         return;
     }
-    lists::put_set(offers, j, nodes::without(lists::set_at(offers, j), i));
+    offers[j] = nodes::without(offers[j], i);
 }
 
 // Row i gives x less to column j.
@@ -62,9 +60,9 @@ pub fn less(
 {
     let y = get(n, a, i, j) - x;
     put(n, a, i, j, y);
-    lists::put_set(offers, j, nodes::with(lists::set_at(offers, j), i));
+    offers[j] = nodes::with(offers[j], i);
     if y > 0 {
         return;
     }
-    lists::put_set(takers, i, nodes::without(lists::set_at(takers, i), j));
+    takers[i] = nodes::without(takers[i], j);
 }

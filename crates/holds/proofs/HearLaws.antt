@@ -1,16 +1,16 @@
 -- What is heard of a pair and for how long, and of all pairs, one destination after the other. The laws assume nothing.
-use mathlib.Core.Path.{◌≡◌, refl, ap, ◌∙◌}
+use mathlib.Core.Path.{◌≡◌, ap}
 use mathlib.Core.List.{List}
 use Prim.Native.Nat.{ℕ, ◌+◌, ◌-◌, ◌≤◌, ◌<◌, min}
 use native.Mathlib.Omega.{arith}
 use borrow.Author.Count.{below_more}
 use borrow.Author.Tests.{lt-ltb, le-ltb}
-use lib.ListN.{length, get_or, set, length-set}
+use lib.ListN.{length, get_or, set}
 use Rattle.sums.specs.Tables.{cell}
 use Rattle.sums.proofs.Cases.{by_lt}
 use Rattle.sums.proofs.Fills.{set_more}
 use Rattle.cells.specs.Cells.{padded_in, kept_in}
-use Rattle.holds.specs.Holds.{lasting, heard_from, CanHear, Hears}
+use Rattle.holds.specs.Holds.{lasting, heard_from, CanHear}
 
 -- ---- how long a pair lasts, and what is heard of it
 pub lasting_idle : (padded kept : ℕ) → kept < padded → lasting padded kept ≡ padded - kept
@@ -29,32 +29,14 @@ pub heard_due : (padded kept i : ℕ) → padded ≤ kept → heard_from padded 
 unfolding heard_from
 heard_due padded kept i le = simp (le-ltb kept padded le)
 
-pub heard_byte : (padded kept i : ℕ) → i < 256 → heard_from padded kept i < 256
-heard_byte padded kept i lt =
-    by_lt kept padded
-    (λ idle. omega (arith, heard_idle padded kept i idle))
-    (λ le. omega (arith, heard_due padded kept i le))
-
 -- ---- what the destinations below j hear, and how long that lasts
-pub record Hearing (n : ℕ) (table source bytes0 bytes : List ℕ) (most h j : ℕ) : Type 0 where
-  pub upto : j ≤ n
-  pub len : length bytes ≡ length bytes0
+pub record Hearing (n : ℕ) (table source bytes : List ℕ) (most h j : ℕ) : Type 0 where
   pub some : 1 ≤ h
   pub within : h ≤ most
   pub lasts : (u : ℕ) → u < j → h ≤ lasting (cell n (padded_in table) (get_or source u 0) u) (cell n (kept_in table) (get_or source u 0) u)
   pub says : (u : ℕ) → u < j → get_or bytes u 0 ≡ heard_from (cell n (padded_in table) (get_or source u 0) u) (cell n (kept_in table) (get_or source u 0) u) (get_or source u 0)
 
-pub hear_start : {n : ℕ} {table source bytes : List ℕ} {most : ℕ} → CanHear n table source bytes most → Hearing n table source bytes bytes most most 0
-hear_start c = record {
-  upto = omega arith;
-  len = refl;
-  some = c.some;
-  within = omega arith;
-  lasts = λ u lt. absurd (omega arith);
-  says = λ u lt. absurd (omega arith);
-}
-
-module _ {n : ℕ} {table source bytes0 bytes : List ℕ} {most h j : ℕ} (c : CanHear n table source bytes0 most) (g : Hearing n table source bytes0 bytes most h j) (hj : j < n)
+module _ {n : ℕ} {table source bytes0 bytes : List ℕ} {most h j : ℕ} (c : CanHear n table source bytes0 most) (fits : j < length bytes) (g : Hearing n table source bytes most h j) (hj : j < n)
     {i a b x y : ℕ} (ei : i ≡ get_or source j 0) (ea : a ≡ cell n (padded_in table) i j) (eb : b ≡ cell n (kept_in table) i j)
     (ex : x ≡ heard_from a b i) (ey : y ≡ lasting a b) where
   heard_here : x ≡ heard_from (cell n (padded_in table) (get_or source j 0) j) (cell n (kept_in table) (get_or source j 0) j) (get_or source j 0)
@@ -72,18 +54,13 @@ module _ {n : ℕ} {table source bytes0 bytes : List ℕ} {most h j : ℕ} (c : 
   says_more : (u : ℕ) → u < j + 1 → get_or (set bytes j x) u 0 ≡ heard_from (cell n (padded_in table) (get_or source u 0) u) (cell n (kept_in table) (get_or source u 0) u) (get_or source u 0)
   says_more =
       set_more (λ u. heard_from (cell n (padded_in table) (get_or source u 0) u) (cell n (kept_in table) (get_or source u 0) u) (get_or source u 0)) bytes j x
-      (omega (arith, g.len, c.outs)) heard_here g.says
+      fits heard_here g.says
 
-  pub hear_step : {fewest : ℕ} → fewest ≡ min h y → Hearing n table source bytes0 (set bytes j x) most fewest (j + 1)
+  pub hear_step : {fewest : ℕ} → fewest ≡ min h y → Hearing n table source (set bytes j x) most fewest (j + 1)
   hear_step {fewest} e = record {
-    upto = omega arith;
-    len = length-set bytes j x ∙ g.len;
     some = omega (arith, g.some, y_some);
     within = omega (arith, g.within);
     lasts = below_more (λ (u : ℕ). fewest ≤ lasting (cell n (padded_in table) (get_or source u 0) u) (cell n (kept_in table) (get_or source u 0) u)) j
         (λ u hu. omega (arith, g.lasts u hu)) (omega (arith, lasts_here));
     says = says_more;
   }
-
-pub hear_end : {n : ℕ} {table source bytes0 bytes : List ℕ} {most h j : ℕ} → Hearing n table source bytes0 bytes most h j → n ≤ j → Hears n table source bytes most h
-hear_end g le = record { some = g.some; within = g.within; lasts = λ u hu. g.lasts u (omega arith); says = λ u hu. g.says u (omega arith) }

@@ -10,19 +10,15 @@ use Rattle.sums.specs.Sums.{hit}
 use Rattle.sums.specs.Tables.{cell}
 use Rattle.sums.proofs.Sums.{sum_two, hit_same, hit_other}
 use Rattle.sums.proofs.Cases.{by_eq, by_lt}
-use Rattle.star.specs.Rooms.{Square}
 use Rattle.star.proofs.LineLaws.{row_sum, column_sum}
-use Rattle.nodes.specs.Sets.{All}
-use Rattle.arrays.specs.Arrays.{Filled}
 use Rattle.at_least.specs.AtLeast.{AtLeast}
 use Rattle.cells.specs.Cells.{padded_in, kept_in}
 use Rattle.pairs.specs.declared.free.Free.{Free}
-use Rattle.pairs.specs.Pairs.{allowed, partners, Paired, Rooms, CanMatch, Matched, Stuck}
+use Rattle.pairs.specs.Pairs.{allowed, partners, Paired, Matched, Stuck}
 use Rattle.pairs.proofs.Counts.{never_stuck, partners_all}
-use Rattle.pairs.proofs.Matches.{all_free}
 use Rattle.holds.specs.declared.turns.Turn.{Turn}
 use Rattle.holds.specs.Holds.{CanHear, Hears, Deducts, Next}
-use Rattle.holds.specs.Turns.{Standing, Even, Begun, CanPair, Ready, CanTake, Parted, CanTurn, Turned}
+use Rattle.holds.specs.Turns.{Standing, Even, CanPair, Ready, CanTake, Parted, CanTurn, Turned}
 use Rattle.holds.proofs.HearLaws.{lasting_idle, lasting_due, heard_idle, heard_due}
 use Rattle.holds.proofs.TakeLaws.{line_less}
 
@@ -38,38 +34,7 @@ lower_paired {source = source} a b le p = record {
   allows = λ j hj lt. (b.all j hj).in' (get_or source j 0) lt (omega (arith, (a.all j hj).out (get_or source j 0) lt (p.allows j hj lt)));
 }
 
-none_paired : {n : ℕ} {source destination : List ℕ} (may : List ℕ) → Filled n source n → Filled n destination n → Paired n may source destination
-none_paired may s d = record {
-  source_most = λ j hj. omega (arith, s.all j hj);
-  destination_most = λ i hi. omega (arith, d.all i hi);
-  back = λ j hj lt. absurd (omega (arith, s.all j hj));
-  forth = λ i hi lt. absurd (omega (arith, d.all i hi));
-  allows = λ j hj lt. absurd (omega (arith, s.all j hj));
-}
-
 -- ---- before the first turn
-pub begin_law : {n : ℕ} {table may may' source source' destination destination' : List ℕ} {level s d : ℕ} → Square n table → Rooms n may source destination
-    → length may' ≡ length may → length source' ≡ length source → length destination' ≡ length destination
-    → AtLeast n (padded_in table) level may' → 1 ≤ level → level < 65536 → Filled n source' n → Filled n destination' n → All s → All d
-    → Begun n table may' source' destination' (record { slots = 0; level = level; held = 0; free = record { sources = s; destinations = d } })
-begin_law {may' = may'} square rooms em es ed right some most no_source no_destination all-sources all-destinations = record {
-  standing = record {
-    table_room = square;
-    rooms = record {
-      nodes = rooms.nodes;
-      mays = omega (arith, rooms.mays);
-      sources = omega (arith, rooms.sources);
-      destinations = omega (arith, rooms.destinations);
-    };
-    right = right;
-    paired = none_paired may' no_source no_destination;
-    lone = record { no_destination = all_free rooms.nodes no_destination all-sources; no_source = all_free rooms.nodes no_source all-destinations };
-    some = some;
-    most = most;
-  };
-  none = refl;
-}
-
 -- ---- all are paired, where need be at a lower level
 pub record Seeking (n : ℕ) (table may0 source0 destination0 may source destination : List ℕ) (level held held0 : ℕ) (free : Free) : Type 0 where
   pub may_len : length may ≡ length may0
@@ -79,9 +44,6 @@ pub record Seeking (n : ℕ) (table may0 source0 destination0 may source destina
   pub few : held ≤ held0
 
 module _ {n : ℕ} {table may source destination : List ℕ} {level : ℕ} {free : Free} (g : Standing n table may source destination level free) where
-  pub seek_match : CanMatch n may source destination free.sources free.destinations
-  seek_match = record { rooms = g.rooms; paired = g.paired; free = g.lone }
-
   -- other pairs at the same level
   pub seek_matched : {source' destination' : List ℕ} {free' : Free} → length source' ≡ length source → length destination' ≡ length destination
       → Matched n may source' destination' free'.sources free'.destinations → Standing n table may source' destination' level free'

@@ -1,5 +1,6 @@
 // One turn after the other: all sources and destinations are paired, the setting that follows is held for as long as each of its pairs allows,
-// and the slots in which it is held are taken from the pairs.
+// and the slots in which it is held are taken from the pairs. `may`, `source` and `destination` are three parameters throughout: a struct of arrays was
+// tried, and would ask more of the callers of `next`, which docs/DECISIONS.md names.
 ghost use Rattle.star.specs.Rooms.{Square};
 ghost use Rattle.pairs.specs.Pairs.{Rooms};
 ghost use Rattle.holds.specs.Turns.{Begun, CanPair, Ready, CanTake, Parted, CanTurn, Turned};
@@ -36,7 +37,7 @@ pub fn begin(
     levels::allow(n, table, level, may);
     Turn {
         slots: 0,
-        level: level,
+        level,
         held: 0,
         free: Free {
             sources: nodes::all(),
@@ -65,9 +66,9 @@ fn pair(
         if nodes::first(free.destinations) >= n {
             return Turn {
                 slots: 0,
-                level: level,
-                held: held,
-                free: free,
+                level,
+                held,
+                free,
             };
         }
         level = levels::lower(level, held);
@@ -93,12 +94,10 @@ fn take(
 {
     let mut sources = free.sources;
     let mut destinations = free.destinations;
-    let mut j = 0;
-    while j < n {
+    for j in 0..n {
         let i = lists::byte(source, j);
         cells::take(n, table, i, j, h);
         if cells::padded(n, table, i, j) >= level {
-            j += 1;
             continue;
         }
         lists::put_set(may, j, nodes::without(lists::set_at(may, j), i));
@@ -106,11 +105,10 @@ fn take(
         lists::put_byte(destination, i, n);
         sources = nodes::with(sources, i);
         destinations = nodes::with(destinations, j);
-        j += 1;
     }
     Free {
-        sources: sources,
-        destinations: destinations,
+        sources,
+        destinations,
     }
 }
 
@@ -145,6 +143,6 @@ pub fn next(
         slots: h,
         level: ready.level,
         held: ready.held + 1,
-        free: free,
+        free,
     }
 }

@@ -1,23 +1,20 @@
 -- Padding: what each loop keeps. A pair that got the smaller of what its lines lack leaves one of them lacking nothing; rows and columns
 -- lack the same in all, so in the end nobody lacks anything. The laws assume nothing.
-use Prim.Native.Nat.{ℕ, ◌+◌, ◌-◌, ◌*◌, ◌≤◌, ◌<◌, min, max}
+use Prim.Native.Nat.{ℕ, ◌+◌, ◌-◌, ◌*◌, ◌≤◌, ◌<◌, min}
 use native.Mathlib.Omega.{arith}
-use mathlib.Core.Path.{◌≡◌, refl, sym, ap, ◌∙◌}
+use mathlib.Core.Path.{◌≡◌, sym, ap, ◌∙◌}
 use mathlib.Core.Logic.{◌⊎◌, ⊎_elim, inl, inr}
 use mathlib.Core.List.{List}
 use lib.ListN.{length, get_or, set, length-set}
 use lib.Seq.{get_or-set_same, get_or-set_other}
-use borrow.Author.Count.{below_more}
 use Rattle.sums.specs.Sums.{sum_to, hit}
 use Rattle.sums.specs.Tables.{cell}
 use Rattle.sums.proofs.Sums.{sum_ext, sum_add, sum_at, sum_all_zero, hit_same, hit_other}
 use Rattle.sums.proofs.Cases.{by_eq, by_lt}
-use Rattle.sums.proofs.Fills.{set_more}
 use Rattle.sums.proofs.Tables.{cell_lt, set_here, set_row, set_col}
 use Rattle.star.specs.Tables.{Demands}
 use Rattle.star.specs.Lines.{line_sum}
 use Rattle.star.specs.LineSums.{Summed}
-use Rattle.star.specs.Rooms.{Square}
 use Rattle.star.proofs.LineLaws.{total_rows, total_columns, line_ext, cell_in_row}
 use Rattle.arrays.proofs.Stores.{square_kept}
 use Rattle.cells.specs.Cells.{padded_in, Gave}
@@ -34,25 +31,15 @@ pub small_place : {n : ℕ} {kept : List ℕ} → Small n kept → (p : ℕ) →
 small_place {n} {kept} h p lt = omega (arith, place_row_sum n kept p 1024 h.lines lt)
 
 -- ---- the cells before p are loaded
-pub record Loading (n : ℕ) (kept table : List ℕ) (p : ℕ) : Type 0 where
-  pub within : p ≤ n * n
-  pub len : length table ≡ length kept
+pub record Loading (kept table : List ℕ) (p : ℕ) : Type 0 where
   pub done : (q : ℕ) → q < p → get_or table q 0 ≡ get_or kept q 0 * 65537
   pub rest : (q : ℕ) → p ≤ q → get_or table q 0 ≡ get_or kept q 0
 
-pub load_step : {n : ℕ} {kept table : List ℕ} {p : ℕ} → Square n kept → Loading n kept table p → p < n * n → Loading n kept (set table p (get_or table p 0 * 65537)) (p + 1)
-load_step {kept = kept} {table = table} {p = p} h g lt = record {
-  within = omega arith;
-  len = length-set table p (get_or table p 0 * 65537) ∙ g.len;
-  done = set_more (λ q. get_or kept q 0 * 65537) table p (get_or table p 0 * 65537) (omega (arith, g.len, h.cells)) (ap (λ (x : ℕ). x * 65537) (g.rest p (omega arith))) g.done;
-  rest = λ q le. get_or-set_other table p q (get_or table p 0 * 65537) 0 (λ e. omega arith) ∙ g.rest q (omega arith);
-}
-
-pub load_end : {n : ℕ} {kept table : List ℕ} {p : ℕ} → Small n kept → Loading n kept table p → n * n ≤ p → Loaded n kept table
+pub loaded_of : {n : ℕ} {kept table : List ℕ} → Small n kept → ((q : ℕ) → q < n * n → get_or table q 0 ≡ get_or kept q 0 * 65537) → Loaded n kept table
 unfolding cell
-load_end {n = n} {kept = kept} {table = table} small g le =
+loaded_of {n = n} {kept = kept} {table = table} small done =
     let at : (i j : ℕ) → i < n → j < n → get_or table (i * n + j) 0 ≡ get_or kept (i * n + j) 0 * 65537 =
-    λ i j hi hj. g.done (i * n + j) (omega (arith, cell_lt n i j hi hj)) in
+    λ i j hi hj. done (i * n + j) (cell_lt n i j hi hj) in
     let low : (i j : ℕ) → i < n → j < n → get_or kept (i * n + j) 0 < 65536 =
     λ i j hi hj. small_place small (i * n + j) (cell_lt n i j hi hj) in
     record {
@@ -60,37 +47,10 @@ load_end {n = n} {kept = kept} {table = table} small g le =
       keeps = λ i j hi hj. kept_at table (i * n + j) ∙ omega (arith, at i j hi hj, low i j hi hj);
     }
 
--- ---- the largest of the sums below m
-pub record Topping (n : ℕ) (sums : List ℕ) (most m : ℕ) : Type 0 where
-  pub within : m ≤ 2 * n
-  pub above : (ℓ : ℕ) → ℓ < m → get_or sums ℓ 0 ≤ most
-  pub tight : (b : ℕ) → ((ℓ : ℕ) → ℓ < 2 * n → get_or sums ℓ 0 ≤ b) → most ≤ b
-
-pub top_step : {n : ℕ} {sums : List ℕ} {most m : ℕ} {most' : ℕ} → Topping n sums most m → m < 2 * n → most' ≡ max most (get_or sums m 0) → Topping n sums most' (m + 1)
-top_step {sums = sums} {most = most} {m = m} {most' = most'} g lt e = record {
-  within = omega arith;
-  above = below_more (λ (ℓ : ℕ). get_or sums ℓ 0 ≤ most') m (λ ℓ h. omega (arith, g.above ℓ h)) (omega arith);
-  tight = λ b all. omega (arith, g.tight b all, all m lt);
-}
-
 -- ---- what the lines below m lack, in place of their sums
-pub record Lessening (n : ℕ) (sums lack : List ℕ) (r m : ℕ) : Type 0 where
-  pub within : m ≤ 2 * n
-  pub len : length lack ≡ length sums
+pub record Lessening (sums lack : List ℕ) (r m : ℕ) : Type 0 where
   pub done : (ℓ : ℕ) → ℓ < m → get_or sums ℓ 0 + get_or lack ℓ 0 ≡ r
   pub rest : (ℓ : ℕ) → m ≤ ℓ → get_or lack ℓ 0 ≡ get_or sums ℓ 0
-
-pub lack_step : {n : ℕ} {sums lack : List ℕ} {r m : ℕ} → 2 * n ≤ length sums → LargestSum n sums r → Lessening n sums lack r m → m < 2 * n
-    → Lessening n sums (set lack m (r - get_or lack m 0)) r (m + 1)
-lack_step {sums = sums} {lack = lack} {r = r} {m = m} fits h g lt =
-    record {
-      within = omega arith;
-      len = length-set lack m (r - get_or lack m 0) ∙ g.len;
-      done = below_more (λ (ℓ : ℕ). get_or sums ℓ 0 + get_or (set lack m (r - get_or lack m 0)) ℓ 0 ≡ r) m
-          (λ ℓ hl. omega (arith, get_or-set_other lack m ℓ (r - get_or lack m 0) 0 (λ e. omega arith), g.done ℓ hl))
-          (omega (arith, get_or-set_same lack m (r - get_or lack m 0) 0 (omega (arith, g.len)), g.rest m (omega arith), h.above m lt));
-      rest = λ ℓ hl. get_or-set_other lack m ℓ (r - get_or lack m 0) 0 (λ e. omega arith) ∙ g.rest ℓ (omega arith);
-    }
 
 -- ---- one pair
 pub can_kept : {n : ℕ} {v lack v' lack' : List ℕ} → length v' ≡ length v → length lack' ≡ length lack → Fuller n v lack v' lack' → CanPad n v lack → CanPad n v' lack'
@@ -166,22 +126,6 @@ module _ {n : ℕ} {v lack : List ℕ} (c : CanPad n v lack) {i j : ℕ} (hi : i
             (λ le. inr (lack_column ∙ omega arith));
       }
 
--- ---- one pair after the other
-fuller_none : (n : ℕ) (v lack : List ℕ) → Fuller n v lack v lack
-fuller_none n v lack = record { keeps = λ r l. l; lines = λ ℓ h. omega arith; cells = λ i j hi hj. omega arith; kept = refl }
-
-fuller_more : {n : ℕ} {v lack v' lack' v'' lack'' : List ℕ} → Fuller n v lack v' lack' → Fuller n v' lack' v'' lack'' → Fuller n v lack v'' lack''
-fuller_more a b = record {
-  keeps = λ r l. b.keeps r (a.keeps r l);
-  lines = λ ℓ h. omega (arith, a.lines ℓ h, b.lines ℓ h);
-  cells = λ i j hi hj. omega (arith, a.cells i j hi hj, b.cells i j hi hj);
-  kept = b.kept ∙ a.kept;
-}
-
--- a line that lacks nothing goes on to lack nothing
-none_kept : {n : ℕ} {v lack v' lack' : List ℕ} → Fuller n v lack v' lack' → (ℓ : ℕ) → ℓ < 2 * n → get_or lack ℓ 0 ≡ 0 → get_or lack' ℓ 0 ≡ 0
-none_kept f ℓ h e = omega (arith, f.lines ℓ h)
-
 -- ---- the end: rows and columns lack the same in all
 module _ {n : ℕ} {v lack : List ℕ} {r : ℕ} (l : Lacks n v lack r) (none : (i j : ℕ) → i < n → j < n → (get_or lack i 0 ≡ 0) ⊎ (get_or lack (n + j) 0 ≡ 0)) where
   same_lack : sum_to n (λ i. get_or lack i 0) ≡ sum_to n (λ j. get_or lack (n + j) 0)
@@ -223,58 +167,6 @@ pub record Stairs (n : ℕ) (v lack v' lack' : List ℕ) (i j : ℕ) : Type 0 wh
   pub fuller : Fuller n v lack v' lack'
   pub rows : (a : ℕ) → a < i → get_or lack' a 0 ≡ 0
   pub columns : (b : ℕ) → b < j → get_or lack' (n + b) 0 ≡ 0
-  pub table_len : length v' ≡ length v
-  pub lack_len : length lack' ≡ length lack
-
-pub stairs_start : (n : ℕ) (v lack : List ℕ) → Stairs n v lack v lack 0 0
-stairs_start n v lack = record {
-  row_within = omega arith;
-  column_within = omega arith;
-  fuller = fuller_none n v lack;
-  rows = λ a lt. absurd (omega arith);
-  columns = λ b lt. absurd (omega arith);
-  table_len = refl;
-  lack_len = refl;
-}
-
-pub stairs_can : {n : ℕ} {v lack v' lack' : List ℕ} {i j : ℕ} → CanPad n v lack → Stairs n v lack v' lack' i j → CanPad n v' lack'
-stairs_can c g = can_kept g.table_len g.lack_len g.fuller c
-
--- a pair got its idle slots: its row lacks nothing and is left behind, or its column is
-module _ {n : ℕ} {v lack v' lack' v'' lack'' : List ℕ} {i j : ℕ} (hi : i < n) (hj : j < n) (g : Stairs n v lack v' lack' i j)
-    (ev : length v'' ≡ length v') (el : length lack'' ≡ length lack') (p : PaddedAt n v' lack' v'' lack'' i j) where
-  stair : Stairs n v lack v'' lack'' i j
-  stair = record {
-    row_within = g.row_within;
-    column_within = g.column_within;
-    fuller = fuller_more g.fuller p.fuller;
-    rows = λ a lt. none_kept p.fuller a (omega arith) (g.rows a lt);
-    columns = λ b lt. none_kept p.fuller (n + b) (omega arith) (g.columns b lt);
-    table_len = ev ∙ g.table_len;
-    lack_len = el ∙ g.lack_len;
-  }
-
-  pub stair_down : get_or lack'' i 0 ≡ 0 → Stairs n v lack v'' lack'' (i + 1) j
-  stair_down e = record {
-    row_within = omega arith;
-    column_within = stair.column_within;
-    fuller = stair.fuller;
-    rows = below_more (λ (a : ℕ). get_or lack'' a 0 ≡ 0) i stair.rows e;
-    columns = stair.columns;
-    table_len = stair.table_len;
-    lack_len = stair.lack_len;
-  }
-
-  pub stair_right : (get_or lack'' i 0 ≡ 0 → ⊥) → Stairs n v lack v'' lack'' i (j + 1)
-  stair_right ne = record {
-    row_within = stair.row_within;
-    column_within = omega arith;
-    fuller = stair.fuller;
-    rows = stair.rows;
-    columns = below_more (λ (b : ℕ). get_or lack'' (n + b) 0 ≡ 0) j stair.columns (⊎_elim (λ e. absurd (ne e)) (λ e. e) p.none);
-    table_len = stair.table_len;
-    lack_len = stair.lack_len;
-  }
 
 -- one side lacks nothing at all
 pub stairs_end : {n : ℕ} {v lack v' lack' : List ℕ} {i j : ℕ} → Stairs n v lack v' lack' i j → (n ≤ i) ⊎ (n ≤ j) → PaddedAll n v v' lack
@@ -282,31 +174,6 @@ stairs_end {n = n} {i = i} {j = j} g side = record {
   lines = λ r l. full_lines (g.fuller.keeps r l) (λ a b ha hb. ⊎_elim (λ (h : n ≤ i). inl (g.rows a (omega arith))) (λ (h : n ≤ j). inr (g.columns b (omega arith))) side);
   cells = g.fuller.cells;
   kept = g.fuller.kept;
-}
-
--- ---- idle slots for pairs that keep nothing
-pub record Sparing (n : ℕ) (v lack v' lack' : List ℕ) (m : ℕ) : Type 0 where
-  pub within : m ≤ n
-  pub fuller : Fuller n v lack v' lack'
-  pub table_len : length v' ≡ length v
-  pub lack_len : length lack' ≡ length lack
-
-pub spare_start : (n : ℕ) (v lack : List ℕ) → Sparing n v lack v lack 0
-spare_start n v lack = record { within = omega arith; fuller = fuller_none n v lack; table_len = refl; lack_len = refl }
-
-pub spare_can : {n : ℕ} {v lack v' lack' : List ℕ} {m : ℕ} → CanPad n v lack → Sparing n v lack v' lack' m → CanPad n v' lack'
-spare_can c g = can_kept g.table_len g.lack_len g.fuller c
-
-pub spare_skip : {n : ℕ} {v lack v' lack' : List ℕ} {m : ℕ} → m < n → Sparing n v lack v' lack' m → Sparing n v lack v' lack' (m + 1)
-spare_skip lt g = record { within = omega arith; fuller = g.fuller; table_len = g.table_len; lack_len = g.lack_len }
-
-pub spare_step : {n : ℕ} {v lack v' lack' v'' lack'' : List ℕ} {m : ℕ} → m < n → Sparing n v lack v' lack' m → length v'' ≡ length v' → length lack'' ≡ length lack'
-    → Fuller n v' lack' v'' lack'' → Sparing n v lack v'' lack'' (m + 1)
-spare_step lt g ev el f = record {
-  within = omega arith;
-  fuller = fuller_more g.fuller f;
-  table_len = ev ∙ g.table_len;
-  lack_len = el ∙ g.lack_len;
 }
 
 -- ---- the whole

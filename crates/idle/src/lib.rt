@@ -1,4 +1,5 @@
-// Filling a kept matrix up with idle slots until every line has one sum, the largest line sum of the matrix.
+// Filling a kept matrix up with idle slots until every line has one sum, the largest line sum of the matrix. `table` and `lack` are two parameters: of a
+// struct that borrows the table each contract would have to say that it keeps its length, which a slice does by itself.
 #![tactic(auto)]
 
 ghost use Rattle.std.specs.Prelude.{◌*◌, ◌<◌, ◌≤◌, length};
@@ -6,18 +7,14 @@ ghost use Rattle.star.specs.Rooms.{Square};
 ghost use Rattle.idle.specs.Idle.{Small, Loaded, LargestSum, Lacking, CanPad, Fuller, PaddedAt, PaddedAll, CanFill, Padded};
 
 use star::lines::line_sums;
-use star::numbers::{larger, smaller};
 
 // Every pair gets what it keeps.
 fn load(n: usize, table: &mut [u32])
     requires { (Square n table.old) × (Small n table.old) }
     ensures { Loaded n table.old table.new }
 {
-    let cells = n * n;
-    let mut p = 0;
-    while p < cells {
-        table[p] = table[p] * 65537;
-        p += 1;
+    for cell in &mut table[..n * n] {
+        *cell *= 65537;
     }
 }
 
@@ -26,13 +23,7 @@ fn largest_sum(n: usize, sums: &[u32]) -> u32
     requires { (n ≤ 64) × (2 * n ≤ length sums.now) }
     ensures { LargestSum n sums.now result }
 {
-    let mut most: u32 = 0;
-    let mut line = 0;
-    while line < 2 * n {
-        most = larger(most, sums[line]);
-        line += 1;
-    }
-    most
+    sums[..2 * n].iter().copied().max().unwrap_or(0)
 }
 
 // What each line lacks of r, in place of its sum.
@@ -40,10 +31,8 @@ fn lacks(n: usize, lack: &mut [u32], r: u32)
     requires { (n ≤ 64) × (2 * n ≤ length lack.old) × (LargestSum n lack.old r) }
     ensures { Lacking n lack.old lack.new r }
 {
-    let mut line = 0;
-    while line < 2 * n {
-        lack[line] = r - lack[line];
-        line += 1;
+    for line in &mut lack[..2 * n] {
+        *line = r - *line;
     }
 }
 
@@ -55,18 +44,26 @@ fn pad_at(n: usize, table: &mut [u32], lack: &mut [u32], i: usize, j: usize)
 {
     let row = lack[i];
     let column = lack[n + j];
-    let idle = smaller(row, column);
+    let idle = row.min(column);
     cells::give(n, table, i, j, idle);
     lack[i] = row - idle;
     lack[n + j] = column - idle;
 }
 
-// The destination after j; after the last one the first.
-fn after(n: usize, j: usize) -> usize
-    requires { (n ≤ 64) × (j < n) }
-    ensures { result < n }
+// Gives idle slots to those pairs of source i with the destinations from `from` to before `to` that keep nothing, until the row lacks nothing.
+fn spare_between(n: usize, table: &mut [u32], lack: &mut [u32], i: usize, from: usize, to: usize)
+    requires can_pad { CanPad n table.old lack.old }
+    requires pairs { (i < n) × (to ≤ n) }
+    ensures { Fuller n table.old lack.old table.new lack.new }
 {
-    if j + 1 < n { j + 1 } else { 0 }
+    for j in from..to {
+        if lack[i] == 0 {
+            return;
+        }
+        if cells::kept(n, table, i, j) == 0 {
+            pad_at(n, table, lack, i, j);
+        }
+    }
 }
 
 // Gives idle slots to the pairs of source i that keep nothing, from destination i on, until the row lacks nothing: a pair that is idle only never
@@ -76,21 +73,8 @@ fn spare_row(n: usize, table: &mut [u32], lack: &mut [u32], i: usize)
     requires pair { i < n }
     ensures { Fuller n table.old lack.old table.new lack.new }
 {
-    let mut j = i;
-    let mut passed = 0;
-    while passed < n {
-        if lack[i] == 0 {
-            return;
-        }
-        if cells::kept(n, table, i, j) > 0 {
-            j = after(n, j);
-            passed += 1;
-            continue;
-        }
-        pad_at(n, table, lack, i, j);
-        j = after(n, j);
-        passed += 1;
-    }
+    spare_between(n, table, lack, i, i, n);
+    spare_between(n, table, lack, i, 0, i);
 }
 
 // Gives idle slots to all pairs that keep nothing.
@@ -98,46 +82,27 @@ fn spare_all(n: usize, table: &mut [u32], lack: &mut [u32])
     requires { CanPad n table.old lack.old }
     ensures { Fuller n table.old lack.old table.new lack.new }
 {
-    let mut i = 0;
-    while i < n {
+    for i in 0..n {
         spare_row(n, table, lack, i);
-        i += 1;
     }
 }
 
-// Gives what is still lacking down a staircase: after each pair its row or its column lacks nothing and is left behind.
+// Gives what is still lacking down a staircase: after each pair its row or its column lacks nothing and is left behind. The loop counts neither
+// alone, so it is no `for`.
 fn stairs(n: usize, table: &mut [u32], lack: &mut [u32])
     requires { CanPad n table.old lack.old }
     ensures { PaddedAll n table.old table.new lack.old }
 {
     let mut i = 0;
     let mut j = 0;
-    while i < n {
-        if j >= n {
-            return;
-        }
+    while i < n && j < n {
         pad_at(n, table, lack, i, j);
         if lack[i] == 0 {
             i += 1;
-            continue;
+        } else {
+            j += 1;
         }
-        j += 1;
     }
-}
-
-// Pads the matrix, with a list to work in for what the lines lack.
-fn pad_with(n: usize, table: &mut [u32], lack: &mut [u32]) -> u32
-    requires can_fill { CanFill n table.old }
-    requires room { 2 * n ≤ length lack.old }
-    ensures { Padded n table.old table.new result }
-{
-    line_sums(n, table, lack);
-    let r = largest_sum(n, lack);
-    lacks(n, lack, r);
-    load(n, table);
-    spare_all(n, table, lack);
-    stairs(n, table, lack);
-    r
 }
 
 // The table holds the matrix and the same with idle slots, where every line sums to the answer: the matrix's largest line sum.
@@ -146,5 +111,11 @@ pub fn pad(n: usize, table: &mut [u32]) -> u32
     ensures { Padded n table.old table.new result }
 {
     let mut lack = [0u32; 128];
-    pad_with(n, table, &mut lack)
+    line_sums(n, table, &mut lack);
+    let r = largest_sum(n, &lack);
+    lacks(n, &mut lack, r);
+    load(n, table);
+    spare_all(n, table, &mut lack);
+    stairs(n, table, &mut lack);
+    r
 }

@@ -4,32 +4,26 @@
 use Prim.Native.Nat.{ℕ, ◌+◌, ◌*◌, ◌≤◌, ◌<◌}
 use native.Mathlib.Omega.{arith}
 use mathlib.Core.Path.{◌≡◌, refl, sym, ◌∙◌, ap}
-use mathlib.Core.Bool.{Bool, true, false}
+use mathlib.Core.Bool.{Bool, true, false, false≢true}
 use mathlib.Core.List.{List}
+use mir.Val.{bool_byte}
+use Rattle.std.specs.Bool.{IsTrue}
+use Rattle.std.specs.Prelude.{◌↔◌}
 use lib.ListN.{length, get_or, set, length-set}
 use lib.Seq.{get_or-set_same, get_or-set_other}
 use Rattle.sums.proofs.Cases.{by_eq, by_lt, by_test}
 use Rattle.sums.proofs.Sums.{sum_one, sum_strict, hit_same, hit_other}
-use Rattle.nodes.specs.Sets.{member, size, Within, None, All, With, WithWhere, Both, Minus, First}
+use Rattle.nodes.specs.Sets.{member, size, Within, All, WithWhere, Both, Minus, First}
 use Rattle.nodes.proofs.Members.{member_lt}
 use Rattle.nodes.proofs.SetLaws.{both_in, both_left, both_right, minus_in, minus_out, minus_gone, minus_case, first_none}
-use Rattle.layers.specs.Layers.{Meets, Leading, Found, Unreached, LayerLists, SearchEnded, Marked}
+use Rattle.layers.specs.Layers.{Meets, Leading, Found, Unreached, Marked}
 
 -- ---- the nodes that lead on
 -- the nodes below i have been asked
 pub record Lead (n : ℕ) (list : List ℕ) (to s i : ℕ) : Type 0 where
-  pub upto : i ≤ n
   pub meets : (k : ℕ) → k < i → member k s ≡ 1 → Meets n (get_or list k 0) to
   pub done : (k j : ℕ) → k < i → j < n → member j (get_or list k 0) ≡ 1 → member j to ≡ 1 → member k s ≡ 1
   pub rest : (k : ℕ) → i ≤ k → member k s ≡ 0
-
-pub lead_start : (n : ℕ) (list : List ℕ) (to s : ℕ) → None s → Lead n list to s 0
-lead_start n list to s z = record {
-  upto = omega arith;
-  meets = λ k p. absurd (omega arith);
-  done = λ k j p. absurd (omega arith);
-  rest = λ k p. z.out k;
-}
 
 -- the first node of two sets is one in common, and below n as all of the other set
 first_meets : {n s t r f : ℕ} → Within n t → Both s t r → First r f → f < 64 → Meets n s t
@@ -39,79 +33,56 @@ first_meets {n} {f = f} W b q lt =
     (λ p. record { node = f; within = p; one = both_left b f e; other = both_right b f e })
     (λ p. absurd (omega (arith, both_right b f e, W.beyond f p)))
 
-module _ {n : ℕ} {list : List ℕ} {to s i set' b f : ℕ} (l : Lead n list to s i) (few : n ≤ 64) (W : Within n to) (here : set' ≡ get_or list i 0) (B : Both set' to b) (F : First b f) where
+module _ {n : ℕ} {list : List ℕ} {to s i b f : ℕ} (l : Lead n list to s i) (few : n ≤ 64) (W : Within n to) (B : Both (get_or list i 0) to b) (F : First b f) where
   pub lead_step : (lt : i < n) (t : Bool) → (t ≡ true → f < 64) → (t ≡ false → 64 ≤ f) → {s' : ℕ} → WithWhere s i t s' → Lead n list to s' (i + 1)
   lead_step lt t yes' no' {s'} w =
-      let B' : Both (get_or list i 0) to b = rw here at B in
       record {
-        upto = omega arith;
         meets = λ k p e. by_eq k i
             (λ q. rw q (by_test t
-            (λ v. first_meets W B' F (yes' v))
+            (λ v. first_meets W B F (yes' v))
             (λ v. let o : member i s' ≡ 1 = rw q at e in absurd (omega (arith, w.left v, l.rest i (omega arith))))))
             (λ q. l.meets k (omega arith) (sym (w.other k q) ∙ e));
         done = λ k j p q x y. by_eq k i
             (λ v. by_test t
             (λ u. rw v (w.added u))
-            (λ u. absurd (first_none F (no' u) j (omega arith) (both_in B' j (rw v at x) y))))
+            (λ u. absurd (first_none F (no' u) j (omega arith) (both_in B j (rw v at x) y))))
             (λ v. w.other k v ∙ l.done k j (omega arith) q x y);
         rest = λ k p. w.other k (λ e. omega arith) ∙ l.rest k (omega arith);
       }
 
-pub lead_end : {n : ℕ} {list : List ℕ} {which to s i r : ℕ} → Lead n list to s i → n ≤ i → Both s which r → Leading n list which to r
-lead_end {which = which} l le B = record {
+pub lead_end : {n : ℕ} {list : List ℕ} {which to s r : ℕ} → Lead n list to s n → Both s which r → Leading n list which to r
+lead_end {which = which} l B = record {
   among = λ k p. both_right B k;
   meets = λ k p e. l.meets k (omega arith) (both_left B k e);
   all = λ k j p q e x y. both_in B k (l.done k j (omega arith) q x y) e;
-  within = record { beyond = λ k p. omega (arith, B.members k ∙ ap (λ u. u * member k which) (l.rest k (omega (arith, l.upto)))) };
+  within = record { beyond = λ k p. omega (arith, B.members k ∙ ap (λ u. u * member k which) (l.rest k p)) };
 }
 
 -- ---- the marks
--- one node, found by the set of it alone
-module _ {s z one b f k : ℕ} (lt : k < 64) (Z : None z) (W : With z k one) (B : Both s one b) (F : First b f) where
-  pub absent_no : f < 64 → 0 + member k s ≡ 1
-  absent_no h =
-      let e = F.found h in
-      by_eq f k
-      (λ q. let m : member k s ≡ 1 = rw q at (both_left B f e) in omega arith)
-      (λ q. absurd (omega (arith, both_right B f e, W.other f q, Z.out f)))
-
-  pub absent_yes : 64 ≤ f → 1 + member k s ≡ 1
-  absent_yes h =
-      by_eq (member k s) 0
-      (λ q. omega arith)
-      (λ q. absurd (first_none F h k lt (both_in B k (omega (arith, member_lt k s)) W.here)))
+-- the mark of a line: 1 where it is absent, and 0 where it is in the set
+pub absent_mark : (k s : ℕ) (t : Bool) → (IsTrue t ↔ (member k s ≡ 0)) → bool_byte t + member k s ≡ 1
+absent_mark k s true e = omega (arith, e.0 refl)
+absent_mark k s false e = by_eq (member k s) 0 (λ z. absurd (false≢true (e.1 z))) (λ z. omega (arith, member_lt k s))
 
 -- the lines below k are marked
-pub record Marking (n r c : ℕ) (marks₀ marks : List ℕ) (k : ℕ) : Type 0 where
-  pub upto : k ≤ n
-  pub len : length marks ≡ length marks₀
+pub record Marking (n r c : ℕ) (marks : List ℕ) (k : ℕ) : Type 0 where
   pub rows : (i : ℕ) → i < k → get_or marks i 0 + member i r ≡ 1
   pub columns : (j : ℕ) → j < k → get_or marks (n + j) 0 + member j c ≡ 1
 
-pub mark_start : (n r c : ℕ) (marks : List ℕ) → Marking n r c marks marks 0
-mark_start n r c marks = record { upto = omega arith; len = refl; rows = λ i p. absurd (omega arith); columns = λ j p. absurd (omega arith) }
-
-pub mark_step : {n r c k : ℕ} {marks₀ marks : List ℕ} → 2 * n ≤ length marks₀ → Marking n r c marks₀ marks k → k < n → (x y : ℕ) → x + member k r ≡ 1 → y + member k c ≡ 1 → Marking n r c marks₀ (set (set marks k x) (n + k) y) (k + 1)
-mark_step {n} {r} {c} {k} {marks₀} {marks} fits M lt x y ex ey =
+pub mark_step : {n r c k : ℕ} {marks : List ℕ} → 2 * n ≤ length marks → Marking n r c marks k → k < n → (x y : ℕ) → x + member k r ≡ 1 → y + member k c ≡ 1 → Marking n r c (set (set marks k x) (n + k) y) (k + 1)
+mark_step {n} {r} {c} {k} {marks} fits M lt x y ex ey =
     let l1 : length (set marks k x) ≡ length marks = simp length-set in
-    let l2 : length (set (set marks k x) (n + k) y) ≡ length (set marks k x) = simp length-set in
     record {
-      upto = omega arith;
-      len = l2 ∙ l1 ∙ M.len;
       rows = λ i p.
           let off = get_or-set_other (set marks k x) (n + k) i y 0 (λ e. omega arith) in
           by_eq i k
-          (λ e. rw (off, e, get_or-set_same marks k x 0 (omega (arith, M.len))) ex)
+          (λ e. rw (off, e, get_or-set_same marks k x 0 (omega arith)) ex)
           (λ e. rw (off, get_or-set_other marks k i x 0 e) (M.rows i (omega arith)));
       columns = λ j p.
           by_eq j k
-          (λ e. rw (e, get_or-set_same (set marks k x) (n + k) y 0 (omega (arith, M.len, l1))) ey)
+          (λ e. rw (e, get_or-set_same (set marks k x) (n + k) y 0 (omega (arith, l1))) ey)
           (λ e. rw (get_or-set_other (set marks k x) (n + k) (n + j) y 0 (λ q. e (omega arith)), get_or-set_other marks k (n + j) x 0 (λ q. omega arith)) (M.columns j (omega arith)));
     }
-
-pub mark_end : {n r c k : ℕ} {marks₀ marks : List ℕ} → Marking n r c marks₀ marks k → n ≤ k → Marked n r c marks
-mark_end M le = record { rows = λ i p. M.rows i (omega arith); columns = λ j p. M.columns j (omega arith) }
 
 -- ---- the layers
 -- `here` is the next layer of rows; fr and fc are the rows and columns that are not reached
@@ -148,14 +119,6 @@ search_start n offers takers rows columns roots goals all all' fr few W A m A' =
   seen_columns = λ i j p q e. absurd (omega (arith, A'.in' j (omega arith)));
   shut = λ j p e. absurd (omega (arith, A'.in' j (omega arith)));
 }
-
--- each turn reaches a row, so the lists are long enough
-module _ {n : ℕ} {offers takers rows columns rows₀ columns₀ : List ℕ} {roots goals fr fc here k : ℕ} (lists : LayerLists n rows₀ columns₀) (S : Searching n offers takers rows columns roots goals fr fc here k) where
-  pub fits_rows : length rows ≡ length rows₀ → k < length rows
-  fits_rows e = omega (arith, S.count, lists.layers)
-
-  pub fits_columns : length columns ≡ length columns₀ → k < length columns
-  fits_columns e = omega (arith, S.count, lists.others)
 
 -- a layer of rows that were not reached leaves fewer of them
 module _ {n : ℕ} {takers : List ℕ} {fr new here' g fr' : ℕ} (few : n ≤ 64) (L' : Leading n takers fr new here') (F' : First here' g) (lt : g < n) (M' : Minus fr here' fr') where
@@ -206,7 +169,7 @@ module _ {n : ℕ} {offers takers rows columns : List ℕ} {roots goals fr fc he
 
   module _ {ends f : ℕ} (few : n ≤ 64) (B : Both new goals ends) (F : First ends f) where
     -- a goal is reached
-    search_found : k < length rows → k < length columns → f < n → Found n offers takers (set rows k here) (set columns k ends) roots goals k
+    pub search_found : k < length rows → k < length columns → f < n → Found n offers takers (set rows k here) (set columns k ends) roots goals k
     search_found fits fits' lt =
         let sub : (j : ℕ) → member j ends ≡ 1 → member j new ≡ 1 = λ j e. both_left B j e in
         let top = get_or-set_same columns k ends 0 fits' in
@@ -218,12 +181,6 @@ module _ {n : ℕ} {offers takers rows columns : List ℕ} {roots goals fr fc he
           ends = λ j p e. both_right B j (sym (ap (member j) top) ∙ e);
           some = rw top (record { node = f; within = lt; one = F.found (omega arith); other = both_right B f (F.found (omega arith)) });
         }
-
-    pub ended_found : {rows' columns' marks : List ℕ} → k < length rows → k < length columns → f < n → rows' ≡ set rows k here → columns' ≡ set columns k ends → SearchEnded n offers takers rows' columns' marks roots goals k
-    ended_found fits fits' lt r c = record {
-      found = λ le. rw (r, c) (search_found fits fits' lt);
-      none = λ over. absurd (omega (arith, S.count));
-    }
 
   module _ {fc' : ℕ} (M : Minus fc new fc') where
     -- what is reached after the columns of this layer
@@ -244,8 +201,8 @@ module _ {n : ℕ} {offers takers rows columns : List ℕ} {roots goals fr fc he
 
       module _ {here' g : ℕ} (L' : Leading n takers fr new here') (F' : First here' g) where
         -- nothing more is reached
-        search_none : n ≤ g → (marks : List ℕ) → Marked n fr fc' marks → Unreached n offers takers marks roots goals
-        search_none none marks K = record {
+        pub search_none : n ≤ g → {marks : List ℕ} → Marked n fr fc' marks → Unreached n offers takers marks roots goals
+        search_none none K = record {
           starts = λ i p e. omega (arith, K.rows i p, S.starts i p e);
           columns = λ i j p q e t. omega (arith, K.columns j q, reached_rows i j p q (omega (arith, K.rows i p)) t);
           rows = λ i j p q e t.
@@ -256,12 +213,6 @@ module _ {n : ℕ} {offers takers rows columns : List ℕ} {roots goals fr fc he
               in
               omega (arith, K.rows i p);
           ends = λ j p e. reached_shut j p (omega (arith, K.columns j p));
-        }
-
-        pub ended_none : {rows' columns' marks : List ℕ} → n ≤ g → Marked n fr fc' marks → SearchEnded n offers takers rows' columns' marks roots goals (n + 1)
-        ended_none {marks = marks} none K = record {
-          found = λ le. absurd (omega arith);
-          none = λ more. search_none none marks K;
         }
 
         -- one more layer

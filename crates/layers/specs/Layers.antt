@@ -1,6 +1,6 @@
 -- Layers: the roots, which are rows; the columns that one of them can give more; the rows from which one of these columns takes; and so on. `rows` and
 -- `columns` have the layers as sets.
-use Rattle.std.specs.Prelude.{ℕ, ◌+◌, ◌≤◌, ◌<◌, ◌≡◌, List, length, get_or}
+use Rattle.std.specs.Prelude.{ℕ, ◌+◌, ◌≤◌, ◌<◌, ◌≡◌, Option, Some, None, List, get_or}
 use Rattle.nodes.specs.Sets.{member, Within}
 
 -- two sets have a node below n in common
@@ -42,16 +42,10 @@ pub record Unreached (n : ℕ) (offers takers marks : List ℕ) (roots goals : �
   pub rows : (i j : ℕ) → i < n → j < n → 0 < get_or marks (n + j) 0 → member j (get_or takers i 0) ≡ 1 → 0 < get_or marks i 0
   pub ends : (j : ℕ) → j < n → 0 < get_or marks (n + j) 0 → member j goals ≡ 0
 
--- lists for the layers
-pub record LayerLists (n : ℕ) (rows columns : List ℕ) : Type 0 where
-  pub nodes : n ≤ 64
-  pub layers : n < length rows
-  pub others : n < length columns
-
--- the search ends in either
-pub record SearchEnded (n : ℕ) (offers takers rows' columns' marks' : List ℕ) (roots goals r : ℕ) : Type 0 where
-  pub found : r ≤ n → Found n offers takers rows' columns' roots goals r
-  pub none : n < r → Unreached n offers takers marks' roots goals
+-- the search ends in either: with the last layer, or none
+abbrev pub SearchEnded : (n : ℕ) (offers takers rows' columns' marks' : List ℕ) (roots goals : ℕ) → Option ℕ → Type 0
+SearchEnded n offers takers rows' columns' marks' roots goals (Some last) = Found n offers takers rows' columns' roots goals last
+SearchEnded n offers takers rows' columns' marks' roots goals None = Unreached n offers takers marks' roots goals
 
 -- a line is marked with 1 where it is not in its set, and with 0 where it is
 pub record Marked (n r c : ℕ) (marks : List ℕ) : Type 0 where

@@ -3,11 +3,10 @@
 -- Assumes nothing.
 use Prim.Native.Nat.{ℕ, ◌+◌, ◌-◌, ◌*◌, ◌≤◌, ◌<◌}
 use native.Mathlib.Omega.{arith}
-use mathlib.Core.Path.{◌≡◌, refl, sym, ◌∙◌, ap}
+use mathlib.Core.Path.{◌≡◌, sym, ◌∙◌, ap}
 use mathlib.Core.Bool.{true, false, false≢true}
 use mathlib.Core.List.{List}
-use lib.ListN.{length, get_or, take}
-use lib.Seq.{length-take-le}
+use lib.ListN.{length, get_or}
 use borrow.Author.Tests.{lt-ltb, le-ltb}
 use Rattle.sums.specs.Tables.{cell, square}
 use Rattle.sums.proofs.Cases.{by_eq, by_lt, by_test}
@@ -31,9 +30,6 @@ pub record Cutting (n : ℕ) (cap e : List ℕ) (m : ℕ) (k : List ℕ) : Type 
   pub others : (i j : ℕ) → i < n → j < n → (i < m → longer n cap e i ≡ false) → (n + j < m → longer n cap e (n + j) ≡ false) → cell n k i j ≡ cell n e i j
 
 module _ {n : ℕ} {cap e : List ℕ} where
-  pub cutting_none : Cutting n cap e 0 e
-  cutting_none = record { rows = λ i j p q h. absurd (omega arith); columns = λ i j p q h. absurd (omega arith); others = λ i j p q a b. refl }
-
   module _ {m : ℕ} {k : List ℕ} (c : Cutting n cap e m k) where
     -- no cell has more than E
     pub cutting_below : (i j : ℕ) → i < n → j < n → cell n k i j ≤ cell n e i j
@@ -150,18 +146,3 @@ module _ {n : ℕ} {cap d a k x : List ℕ} (c : CanKeep n cap d a k) (e : x ≡
   pub kept_all : (y : List ℕ) → y ≡ square n (kept_cell n cap x) → y ≡ kept_from n cap d a
   unfolding kept_from
   kept_all y f = f ∙ ap (λ z. square n (kept_cell n cap z)) e
-
--- the first n * n cells of a longer table
-pub can_keep_exactly : {n : ℕ} {cap d a k : List ℕ} → CanKeep n cap d a k → (CanKeep n cap d a (take (n * n) k)) × (length (take (n * n) k) ≡ n * n)
-can_keep_exactly {n} {cap} {d} {a} {k} c =
-    let exact = length-take-le (n * n) k c.kept.cells in (
-      record {
-        demand = c.demand;
-        demands = c.demands;
-        capacities = c.capacities;
-        withdrawn = c.withdrawn;
-        kept = record { nodes = c.kept.nodes; cells = omega (arith, exact) };
-        greatest = c.greatest;
-      },
-      exact,
-    )

@@ -1,7 +1,7 @@
 -- A line rewritten cell by cell: by what a store to a cell of a line leaves. Assumes nothing.
 use Prim.Native.Nat.{ℕ, ◌+◌, ◌*◌, ◌≤◌, ◌<◌}
 use native.Mathlib.Omega.{arith}
-use mathlib.Core.Path.{◌≡◌, refl, sym, ◌∙◌, ap}
+use mathlib.Core.Path.{◌≡◌, sym, ◌∙◌, ap}
 use mathlib.Core.List.{List}
 use lib.ListN.{length, set}
 use Rattle.sums.specs.Tables.{cell}
@@ -16,9 +16,6 @@ pub record Rewriting (n ℓ : ℕ) (f : ℕ → ℕ) (m : ℕ) (k k' : List ℕ)
   pub off : (i j : ℕ) → i < n → j < n → (i ≡ ℓ → ⊥) → (n + j ≡ ℓ → ⊥) → cell n k' i j ≡ cell n k i j
 
 module _ (n ℓ : ℕ) (f : ℕ → ℕ) where
-  pub rewriting_none : (k : List ℕ) → Rewriting n ℓ f 0 k k
-  rewriting_none k = record { on = λ t h. absurd (omega arith); off = λ i j p q a b. refl }
-
   pub rewriting_more : (m : ℕ) (k k' : List ℕ) (x : ℕ) → ℓ < 2 * n → m < n → n * n ≤ length k' → x ≡ f m → Rewriting n ℓ f m k k' → Rewriting n ℓ f (m + 1) k (set k' (source_on n ℓ m * n + destination_on n ℓ m) x)
   rewriting_more m k k' x hl hm fits e r = record {
     on = λ t h.
@@ -27,9 +24,6 @@ module _ (n ℓ : ℕ) (f : ℕ → ℕ) where
         (λ ne. along_other n k' ℓ m x hl hm t (omega arith) ne ∙ r.on t (omega arith));
     off = λ i j p q a b. along_off n k' ℓ m x hl hm i j q a b ∙ r.off i j p q a b;
   }
-
-  pub rewriting_all : (m : ℕ) (k k' : List ℕ) → m ≡ n → Rewriting n ℓ f m k k' → Rewritten n ℓ f k k'
-  rewriting_all m k k' e r = record { on = λ t h. r.on t (omega arith); off = r.off }
 
 -- what a line is rewritten to matters at its cells alone
 pub rewritten_same : (n ℓ : ℕ) (f g : ℕ → ℕ) (k k' : List ℕ) → ((t : ℕ) → t < n → f t ≡ g t) → Rewritten n ℓ f k k' → Rewritten n ℓ g k k'

@@ -1,20 +1,18 @@
 -- A withdrawn matrix is one that stays below D at each cell and below the excess on each line: a line that does not overflow has excess 0, so
 -- there every cell is 0 by itself. Hence the greatest withdrawn matrices are the largest of these. Assumes nothing.
-use Prim.Native.Nat.{ℕ, ◌+◌, ◌*◌, ◌≤◌, ◌<◌}
+use Prim.Native.Nat.{ℕ, ◌+◌, ◌-◌, ◌*◌, ◌≤◌, ◌<◌}
 use native.Mathlib.Omega.{arith}
-use mathlib.Core.Path.{◌≡◌, refl, sym, ◌∙◌, ap}
+use mathlib.Core.Path.{◌≡◌, refl, sym, ◌∙◌}
 use mathlib.Core.Bool.{Bool, true, false, ◌&&◌}
 use mathlib.Core.List.{List}
-use lib.IntN.{sub_ℕ}
 use lib.ListN.{length, get_or, take, set}
 use borrow.Author.Tests.{ltb-false}
 use Rattle.sums.specs.Tables.{cell, tab}
-use Rattle.sums.proofs.Tables.{length_tab, tab_at, written_first}
-use Rattle.sums.proofs.Fills.{Filled, filled_next, filled_more, filled_all}
-use Rattle.star.specs.Tables.{Demands}
-use Rattle.star.specs.Lines.{line_sum, overflows, slack, excess, excess_of, critical}
+use Rattle.sums.proofs.Tables.{tab_at}
+use Rattle.sums.proofs.Fills.{Filled, filled_next, filled_more}
+use Rattle.star.specs.Lines.{line_sum, overflows, excess, critical}
 use Rattle.star.specs.LineSums.{Summed}
-use Rattle.star.proofs.LineLaws.{line_most, excess_is, overflows_is, cell_in_row, cell_in_column}
+use Rattle.star.proofs.LineLaws.{excess_is, overflows_is, cell_in_row, cell_in_column}
 use Rattle.flow.specs.Flows.{Feasible, Largest}
 use Rattle.flow.proofs.Duality.{closed_is_largest}
 use Rattle.flow.specs.Certified.{Certified}
@@ -61,21 +59,11 @@ module _ (n : ℕ) (cap d : List ℕ) {m : ℕ} {sums t : List ℕ} (f : Filled 
   sum_next : Summed n d sums → 2 * n ≤ length sums → m < 2 * n → get_or t m 0 ≡ line_sum n d m
   sum_next s room h = filled_next f (omega arith) ∙ s.lines m h
 
-  pub next_most : n ≤ 64 → Demands n d → Summed n d sums → 2 * n ≤ length sums → m < 2 * n → get_or t m 0 ≤ 4194240
-  next_most few most s room h = omega (arith, sum_next s room h, line_most n d m few most h)
-
-  pub excess_next : (x : ℕ) → Summed n d sums → 2 * n ≤ length sums → m < 2 * n → x ≡ excess_of (sub_ℕ (get_or cap m 0) (get_or t m 0)) → Filled (m + 1) (excess n cap d) sums (set t m x)
-  unfolding excess slack
-  excess_next x s room h e = filled_more x f (omega arith) (e ∙ ap (λ y. excess_of (sub_ℕ (get_or cap m 0) y)) (sum_next s room h))
-
-  pub excess_all : m ≡ 2 * n → take (2 * n) t ≡ tab (2 * n) (excess n cap d)
-  excess_all e = ap (take (2 * n)) (filled_all (2 * n) f e) ∙ written_first (2 * n) (tab (2 * n) (excess n cap d)) sums (length_tab (excess n cap d) (2 * n))
+  pub excess_next : Summed n d sums → 2 * n ≤ length sums → m < 2 * n → Filled (m + 1) (excess n cap d) sums (set t m (get_or t m 0 - get_or cap m 0))
+  excess_next s room h = filled_more _ f (omega arith) (omega (arith, sum_next s room h, excess_is n cap d m))
 
 -- ---- the ceilings as a table begins with them
 module _ (n : ℕ) (cap d ceilings : List ℕ) (e : take (2 * n) ceilings ≡ tab (2 * n) (excess n cap d)) where
-  pub ceilings_fit : 2 * n ≡ length (take (2 * n) ceilings)
-  ceilings_fit = sym (ap length e ∙ length_tab (excess n cap d) (2 * n))
-
   -- the largest matrix below D and the excesses
   pub certified_is_withdrawn : {a marks a' marks' : List ℕ} → Certified n d (take (2 * n) ceilings) a marks a' marks' → Withdrew n cap d a marks a' marks'
   certified_is_withdrawn {a' = a'} {marks' = marks'} c =

@@ -16,11 +16,8 @@ fn subtract(n: usize, demand: &[u32], withdrawn: &[u32], table: &mut [u32])
     requires below { (p : ℕ) → p < n * n → get_or withdrawn.now p 0 ≤ get_or demand.now p 0 }
     ensures { table.new ≡ left n demand.now withdrawn.now }
 {
-    let cells = n * n;
-    let mut p = 0;
-    while p < cells {
+    for p in 0..n * n {
         table[p] = demand[p] - withdrawn[p];
-        p += 1;
     }
 }
 
@@ -32,83 +29,64 @@ fn claim(remainder: u32, t: usize) -> u32
     remainder * 64 + (63 - t) as u32
 }
 
-// Divides the capacity of a line too long, whose sum is given: the share of each cell, the claim of each, and the slots still missing.
-fn divide(
-    n: usize,
-    cap: &[u32],
-    table: &[u32],
-    line: usize,
-    sum: u32,
-    shares: &mut [u32],
-    claims: &mut [u32],
-) -> u32
-    requires line { Line n cap.now table.now line }
-    requires room { (n ≤ length shares.old) × (n ≤ length claims.old) }
-    requires too_long { (sum ≡ line_sum n table.now line) × (get_or cap.now line 0 < sum) }
-    ensures { Divided n cap.now table.now line shares.new claims.new result }
-{
-    let capacity = cap[line];
-    let mut given: u32 = 0;
-    let mut t = 0;
-    while t < n {
-        let part = on_line(n, table, line, t) * capacity;
-        shares[t] = part / sum;
-        claims[t] = claim(part % sum, t);
-        given += part / sum;
-        t += 1;
-    }
-    capacity - given
-}
-
-// 1 if one claim outranks the other, which is to be larger, else 0.
-fn outranks(one: u32, other: u32) -> u32
-    ensures { (result ≡ bit (ltb other one)) × (result ≤ 1) }
-{
-    if one > other { 1 } else { 0 }
-}
-
-// How many cells of a line come before cell t, given the claim of each: one comparison a cell, which the machine makes for several at once.
-fn rank(n: usize, claims: &[u32], t: usize) -> u32
-    requires node { (n ≤ 64) × (t < n) }
-    requires room { n ≤ length claims.now }
-    ensures { result ≡ outranking n claims.now t }
-{
-    let mut count: u32 = 0;
-    let mut u = 0;
-    while u < n {
-        count += outranks(claims[u], claims[t]);
-        u += 1;
-    }
-    count
-}
-
-// A share, and one slot more where the rank of its cell is below the number of slots missing. A share is at most 65,535 × 1,024, so it fits.
-fn gained(share: u32, rank: u32, missing: u32) -> u32
-    requires { share ≤ 67107840 }
-    ensures { result ≡ share + bit (ltb rank missing) }
-{
-    if rank < missing { share + 1 } else { share }
-}
-
-// Gives each cell of a line its share, and the missing slots one each to the cells that come first.
-fn give_shares(
-    n: usize,
-    table: &mut [u32],
-    line: usize,
-    shares: &[u32],
-    claims: &[u32],
+// A line too long, divided: the share of each of its cells, how many slots are still missing then, and each cell's claim to one.
+#[derive(Drop)]
+struct Division {
+    claims: [u32; 64],
     missing: u32,
-)
+    shares: [u32; 64],
+}
+
+impl Division {
+    // Divides the capacity of a line too long, whose sum is given; before that all of it is missing.
+    fn divide(&mut self, n: usize, cap: &[u32], table: &[u32], line: usize, sum: u32)
+        requires line { Line n cap.now table.now line }
+        requires whole { self.old.missing ≡ get_or cap.now line 0 }
+        requires too_long { (sum ≡ line_sum n table.now line) × (get_or cap.now line 0 < sum) }
+        ensures { Divided n cap.now table.now line self.new.shares self.new.claims self.new.missing }
+    {
+        let mut given = 0;
+        for t in 0..n {
+            let part = on_line(n, table, line, t) * cap[line];
+            self.shares[t] = part / sum;
+            self.claims[t] = claim(part % sum, t);
+            given += part / sum;
+        }
+        self.missing -= given;
+    }
+
+    // How many cells of the line come before cell t: one comparison a cell and no branch, which the machine makes for several at once.
+    fn rank(&self, n: usize, t: usize) -> u32
+        requires { (n ≤ 64) × (t < n) }
+        ensures { result ≡ outranking n self.now.claims t }
+    {
+        let own = self.claims[t];
+        let mut count = 0;
+        for claim in &self.claims[..n] {
+            count += u32::from(*claim > own);
+        }
+        count
+    }
+
+    // What cell t keeps: its share, and one slot more where its rank is below the number of slots missing. A share is at most 65,535 × 1,024, so it
+    // fits.
+    fn kept(&self, n: usize, t: usize) -> u32
+        requires node { (n ≤ 64) × (t < n) }
+        requires below { get_or self.now.shares t 0 ≤ 67107840 }
+        ensures { result ≡ get_or self.now.shares t 0 + bit (ltb (outranking n self.now.claims t) self.now.missing) }
+    {
+        self.shares[t] + u32::from(self.rank(n, t) < self.missing)
+    }
+}
+
+// Gives each cell of a line what it keeps.
+fn give_shares(n: usize, table: &mut [u32], line: usize, division: &Division)
     requires square { (Square n table.old) × (line < 2 * n) }
-    requires room { (n ≤ length shares.now) × (n ≤ length claims.now) }
-    requires below { (t : ℕ) → t < n → get_or shares.now t 0 ≤ 67107840 }
-    ensures { Rewritten n line (λ t. get_or shares.now t 0 + bit (ltb (outranking n claims.now t) missing)) table.old table.new }
+    requires below { (t : ℕ) → t < n → get_or division.now.shares t 0 ≤ 67107840 }
+    ensures { Rewritten n line (λ t. get_or division.now.shares t 0 + bit (ltb (outranking n division.now.claims t) division.now.missing)) table.old table.new }
 {
-    let mut t = 0;
-    while t < n {
-        let kept = gained(shares[t], rank(n, claims, t), missing);
-        put_on_line(n, table, line, t, kept);
-        t += 1;
+    for t in 0..n {
+        put_on_line(n, table, line, t, division.kept(n, t));
     }
 }
 
@@ -118,10 +96,13 @@ fn share_line(n: usize, cap: &[u32], table: &mut [u32], line: usize, sum: u32)
     requires too_long { (sum ≡ line_sum n table.old line) × (get_or cap.now line 0 < sum) }
     ensures { Rewritten n line (shared n cap.now table.old line) table.old table.new }
 {
-    let mut shares = [0u32; 64];
-    let mut claims = [0u32; 64];
-    let missing = divide(n, cap, table, line, sum, &mut shares, &mut claims);
-    give_shares(n, table, line, &shares, &claims, missing);
+    let mut division = Division {
+        claims: [0; 64],
+        missing: cap[line],
+        shares: [0; 64],
+    };
+    division.divide(n, cap, table, line, sum);
+    give_shares(n, table, line, &division);
 }
 
 // Cuts every line of E that is too long, given the sums of all lines of E. Two such lines meet only in a zero cell, so no cut changes a line that
@@ -130,13 +111,10 @@ fn share_lines(n: usize, cap: &[u32], sums: &[u32], table: &mut [u32])
     requires { CanShare n cap.now sums.now table.old }
     ensures { table.new ≡ square n (kept_cell n cap.now table.old) }
 {
-    let lines = 2 * n;
-    let mut line = 0;
-    while line < lines {
+    for line in 0..2 * n {
         if sums[line] > cap[line] {
             share_line(n, cap, table, line, sums[line]);
         }
-        line += 1;
     }
 }
 
@@ -156,6 +134,5 @@ pub fn keep(n: usize, cap: &[u32], demand: &[u32], withdrawn: &[u32], kept: &mut
     requires { CanKeep n cap.now demand.now withdrawn.now kept.old }
     ensures { kept.new ≡ written (n * n) (kept_from n cap.now demand.now withdrawn.now) kept.old }
 {
-    let cells = n * n;
-    keep_exactly(n, cap, demand, withdrawn, &mut kept[..cells]);
+    keep_exactly(n, cap, demand, withdrawn, &mut kept[..n * n]);
 }

@@ -7,20 +7,17 @@ ghost use Rattle.star.specs.Rooms.{Square, Capacities};
 ghost use Rattle.least.specs.Promises.{CanWithdraw, Withdrew};
 
 use flow::largest;
-use star::lines::{excess, line_sums, slack};
+use star::lines::line_sums;
 
-// Writes the excess of each line: first the sums of all lines, and then each sum gives way to its excess.
+// Writes the excess of each line: first the sums of all lines, and then each sum gives way to what it has above its capacity.
 fn excesses(n: usize, cap: &[u32], demand: &[u32], table: &mut [u32])
     requires square { (Square n demand.now) × (Demands n demand.now) }
     requires capacities { (Capacities n cap.now) × (2 * n ≤ length table.old) }
     ensures { take (2 * n) table.new ≡ tab (2 * n) (excess n cap.now demand.now) }
 {
     line_sums(n, demand, table);
-    let lines = 2 * n;
-    let mut line = 0;
-    while line < lines {
-        table[line] = excess(slack(cap[line], table[line]));
-        line += 1;
+    for line in 0..2 * n {
+        table[line] = table[line].saturating_sub(cap[line]);
     }
 }
 
@@ -29,8 +26,7 @@ pub fn withdraw(n: usize, cap: &[u32], demand: &[u32], withdrawn: &mut [u32], ma
     requires { CanWithdraw n cap.now demand.now withdrawn.old marks.old }
     ensures { Withdrew n cap.now demand.now withdrawn.old marks.old withdrawn.new marks.new }
 {
-    let lines = 2 * n;
     let mut ceilings = [0u32; 128];
     excesses(n, cap, demand, &mut ceilings);
-    largest(n, demand, &mut ceilings[..lines], withdrawn, marks);
+    largest(n, demand, &mut ceilings[..2 * n], withdrawn, marks);
 }

@@ -1,31 +1,28 @@
 -- What is printed of plan's answer is what document 01's order asks: plan gives 1, 2 and 3 before it looks at the demand, and where the count of
 -- demands is right, the demand that it is lent is the input's. The laws assume nothing.
-use Prim.Native.Nat.{ℕ, ◌+◌, ◌-◌, ◌*◌, ◌≤◌, ◌<◌, min}
+use Prim.Native.Nat.{ℕ, ◌-◌, ◌*◌, ◌≤◌, ◌<◌, min}
 use native.Mathlib.Omega.{arith}
 use native.Mathlib.Nat.{mul-le-mul}
 use mathlib.Core.Path.{◌≡◌, refl, sym, ◌∙◌, ap, subst}
 use mathlib.Core.Bool.{Bool, true, false, ◌||◌}
 use mathlib.Core.List.{List, [], ◌∷◌}
 use mathlib.Core.Option.{none}
+use Rattle.std.specs.Prelude.{Ok, Err}
 use lib.Dec.{leb, eqb}
 use lib.ListN.{length, get_or, take, drop, length-drop}
-use lib.Seq.{get_or-take, take_all, take-add, drop_at, length-take-le}
+use lib.Seq.{get_or-take, take_all, length-take-le}
 use borrow.Author.Tests.{eqb-true, ltb-false, lt-ltb, le-ltb, le-leb, lt-leb}
-use Rattle.sums.proofs.Cases.{by_test}
+use Rattle.sums.proofs.Cases.{by_lt, by_test}
 use Rattle.sums.proofs.Tables.{mul_small}
 use Rattle.star.specs.declared.refusals.Refusal.{Refusal}
 use Rattle.star.specs.declared.refusals.Refusal.TheVariants.{Nodes, Slots, Rule, DemandShort, TableShort, DemandAbove}
-use Rattle.star.specs.declared.refusals.Verdict.TheVariants as verdict
-use Rattle.star.specs.Refusals.{nodes_out, slots_out, rule_out, some_cell, first_above, refusal_number, refusal_place, Sizes}
+use Rattle.star.specs.Refusals as verdict
+use Rattle.star.specs.Refusals.{verdict_of, nodes_out, slots_out, rule_out, some_cell, first_above, refusal_number, refusal_place, Sizes}
 use Rattle.star.specs.Lines.{total, whole_frame}
 use Rattle.star.specs.Checks.{sizes_verdict, rule_verdict, demand_short_verdict, demand_above_verdict, refuse, then}
 use Rattle.star.proofs.RefusalLaws.{fires, passes, never, then_stops, then_goes, in_its_range, sizes_fit, rule_fits, demand_fits}
-use Rattle.pieces.specs.Pieces.{Appended, Answered}
 use Rattle.pieces.specs.Text.{bad_input, refusal_text}
-use Rattle.pieces.proofs.PieceLaws.{answered_text}
-use Rattle.planner.specs.declared.answers.Answer.{Answer}
-use Rattle.planner.specs.declared.answers.Answer.TheVariants.{Planned, Refused}
-use Rattle.planner.specs.Plans.{verdict_of, report_of, Plan, PlanResult}
+use Rattle.planner.specs.Plans.{Answer, Planned, Refused, report_of, Plan, PlanResult}
 use Rattle.planner.specs.Lent.{Lent, lent, LentRoom}
 use Rattle.planner.specs.Checks.{lent_short_verdict, plan_verdict}
 use Rattle.planner.proofs.PlanLaws.{lent_fits, plan_room}
@@ -33,7 +30,7 @@ use Rattle.number_list.specs.Input.{list_of}
 use Rattle.number_list.specs.Reads.{Stored, Holds}
 use Rattle.matrix_text.specs.Text.{plan_text}
 use Rattle.matrix_text.specs.Outcomes.{Outcome, BadInput, Refuses, Plans, or_else, judge, judge_list, outcome, outcome_text, Prints}
-use Rattle.matrix_text.specs.Writes.{refused_text, answer_text, Printable, Judged}
+use Rattle.matrix_text.specs.Writes.{refused_text, answer_text, Printable}
 
 -- ---- tests
 or_true : (a : Bool) → (a || true) ≡ true
@@ -48,12 +45,12 @@ left x e h = rw e h
 
 -- ---- answers
 is_refused : (r : Answer) (x : Refusal) → verdict_of r ≡ verdict.Refused x → r ≡ Refused x
-is_refused (Planned f) x e = absurd (never (sym e))
-is_refused (Refused y) x e = cc
+is_refused (Ok f) x e = absurd (never (sym e))
+is_refused (Err y) x e = cc
 
 is_planned : (r : Answer) → verdict_of r ≡ verdict.Accepted → r ≡ Planned (report_of r)
-is_planned (Planned f) e = refl
-is_planned (Refused y) e = absurd (never e)
+is_planned (Ok f) e = refl
+is_planned (Err y) e = absurd (never e)
 
 -- ---- a refusal and the count
 pub refused_early : (whole : Bool) (x : Refusal) → refusal_number x ≤ 3 → refused_text whole x ≡ refusal_text (refusal_number x) (refusal_place x)
@@ -199,14 +196,6 @@ module _ (n l rule : ℕ) (k : Lent) (lk : length k.kept ≡ 4096) (lw : length 
         (ap (λ t. answer_text t n l rule k'.kept r) wrong ∙ late _ _ _ _ (p.answer ∙ sym (then_goes (sizes_fit n l (sizes n l e1 e2)) refl (then_goes (rule_fits rule (ltb-false 1 rule e3)) refl refl))))))))
 
 -- ---- the numbers that a table stores
--- what the table has of the list's demands
-drop_take : (m k : ℕ) (t : List ℕ) → m ≤ length t → m ≤ k → drop m (take k t) ≡ take (k - m) (drop m t)
-drop_take m k t fits le =
-    let e : m + (k - m) ≡ k = omega arith in
-    ap (λ x. drop m (take x t)) (sym e)
-    ∙ ap (drop m) (take-add m (k - m) t)
-    ∙ drop_at (take m t) (take (k - m) (drop m t)) m (length-take-le m t fits)
-
 split : (numbers : List ℕ) → 3 ≤ length numbers → numbers ≡ get_or numbers 0 0 ∷ get_or numbers 1 0 ∷ get_or numbers 2 0 ∷ drop 3 numbers
 split [] h = absurd (omega arith)
 split (a ∷ []) h = absurd (omega arith)
@@ -221,47 +210,56 @@ few_numbers (a ∷ []) h = refl
 few_numbers (a ∷ b ∷ []) h = refl
 few_numbers (a ∷ b ∷ c ∷ d) h = absurd (omega arith)
 
-pub few_print : (table numbers : List ℕ) (count : ℕ) → count < 3 → Stored table count numbers → Prints (judge numbers) bad_input
-few_print table numbers count few s = prints_bad (judge numbers) bad_input (few_numbers numbers (omega (arith, s.counted))) refl
+module _ (table numbers : List ℕ) (count end : ℕ) (size : length table ≡ 4099) (e : end ≡ min count 4099) (s : Stored table count numbers) where
+  pub few_print : length (take end table) < 3 → Prints (judge numbers) bad_input
+  few_print few = prints_bad (judge numbers) bad_input (few_numbers numbers (omega (arith, s.counted, length-take-le end table (omega arith)))) refl
 
-module _ (table numbers : List ℕ) (count end : ℕ) (size : length table ≡ 4099) (some : 3 ≤ count) (e : end ≡ min count 4099) (s : Stored table count numbers) where
-  first : (i : ℕ) → i < 3 → get_or numbers i 0 ≡ get_or table i 0
-  first i h = sym (get_or-take (length table) numbers i 0 (omega arith)) ∙ ap (λ l. get_or l i 0) s.held ∙ get_or-take count table i 0 (omega arith)
+  -- the first numbers of the list
+  first_numbers : take end table ≡ take 4099 numbers
+  first_numbers =
+      by_lt count 4099
+      (λ few. let all : end ≡ count = omega arith in rw (all, ← size) (sym s.held))
+      (λ many. let all : end ≡ length table = omega arith in rw all (take_all (length table) table (omega arith) ∙ sym (take_all count table (omega arith)) ∙ sym s.held ∙ ap (λ k. take k numbers) size))
 
-  demands : count ≤ 4099 → take (end - 3) (drop 3 table) ≡ drop 3 numbers
-  demands few =
-      let all : end ≡ count = omega arith in
-      rw all
-      (sym (drop_take 3 count table (omega arith) some)
-      ∙ ap (drop 3) (sym s.held ∙ take_all (length table) numbers (omega (arith, s.counted))))
+  module _ (some : 3 ≤ length (take end table)) where
+    first : (i : ℕ) → i < 3 → get_or numbers i 0 ≡ get_or (take end table) i 0
+    first i h = sym (ap (λ l. get_or l i 0) first_numbers ∙ get_or-take 4099 numbers i 0 (omega arith))
 
-  counted : length (drop 3 numbers) ≡ count - 3
-  counted = length-drop 3 numbers ∙ omega (arith, s.counted)
+    -- where all fit, the demand is the list's
+    demands : length numbers ≤ 4099 → take (length (take end table) - 3) (drop 3 (take end table)) ≡ drop 3 numbers
+    demands few =
+        take_all (length (take end table) - 3) (drop 3 (take end table)) (omega (arith, length-drop 3 (take end table)))
+        ∙ ap (drop 3) (first_numbers ∙ take_all 4099 numbers few)
 
-  listed : numbers ≡ get_or table 0 0 ∷ get_or table 1 0 ∷ get_or table 2 0 ∷ drop 3 numbers
-  listed = split numbers (omega (arith, s.counted)) ∙ cc (first 0 (omega arith), first 1 (omega arith), first 2 (omega arith))
+    many : 3 ≤ length numbers
+    many = omega (arith, s.counted, length-take-le end table (omega arith))
 
-  pub stored_prints : {n l rule : ℕ} {k k' : Lent} (r : Answer) → PlanResult n l rule (take (end - 3) (drop 3 table)) k k' r → n ≡ get_or table 0 0 → l ≡ get_or table 1 0 → rule ≡ get_or table 2 0 →
-      length k.kept ≡ 4096 → length k.withdrawn ≡ 4096 → length k.schedule ≡ 65536 → Prints (judge numbers) (answer_text (eqb (count - 3) (n * n)) n l rule k'.kept r)
-  stored_prints {n} {l} {rule} {k} {k'} r p hn hl hr lk lw ls =
-      subst (λ m. Prints (judge m) (answer_text (eqb (count - 3) (n * n)) n l rule k'.kept r))
-      (cc (listed))
-      (subst (λ c. Prints (judge (n ∷ l ∷ rule ∷ drop 3 numbers)) (answer_text (eqb c (n * n)) n l rule k'.kept r)) counted
-      (numbers_print n l rule k lk lw ls k' r (take (end - 3) (drop 3 table)) p (drop 3 numbers)
-      (λ few e. demands (omega (arith, counted, mul_small n n few few)))))
+    counted : length (drop 3 numbers) ≡ count - 3
+    counted = length-drop 3 numbers ∙ omega (arith, s.counted)
+
+    pub stored_prints : {k k' : Lent} (r : Answer) →
+        PlanResult (get_or (take end table) 0 0) (get_or (take end table) 1 0) (get_or (take end table) 2 0) (take (length (take end table) - 3) (drop 3 (take end table))) k k' r →
+        length k.kept ≡ 4096 → length k.withdrawn ≡ 4096 → length k.schedule ≡ 65536 →
+        Prints (judge numbers) (answer_text (eqb (count - 3) (get_or (take end table) 0 0 * get_or (take end table) 0 0)) (get_or (take end table) 0 0) (get_or (take end table) 1 0) (get_or (take end table) 2 0) k'.kept r)
+    stored_prints {k} {k'} r p lk lw ls =
+        let n = get_or (take end table) 0 0 in
+        let l = get_or (take end table) 1 0 in
+        let rule = get_or (take end table) 2 0 in
+        let listed : numbers ≡ n ∷ l ∷ rule ∷ drop 3 numbers = split numbers many ∙ cc (first 0 (omega arith), first 1 (omega arith), first 2 (omega arith)) in
+        subst (λ m. Prints (judge m) (answer_text (eqb (count - 3) (n * n)) n l rule k'.kept r)) (sym listed)
+        (subst (λ c. Prints (judge (n ∷ l ∷ rule ∷ drop 3 numbers)) (answer_text (eqb c (n * n)) n l rule k'.kept r)) counted
+        (numbers_print n l rule k lk lw ls k' r (take (length (take end table) - 3) (drop 3 (take end table))) p (drop 3 numbers)
+        (λ small e. demands (omega (arith, counted, s.counted, mul_small n n small small)))))
 
 -- ---- the whole input
-answered : (input : List ℕ) {out out' text : List ℕ} {r : ℕ} {o : Outcome} → outcome input ≡ o → Prints o text → Appended out out' 0 r text → Answered (Prints (outcome input)) out out' r
-answered input e p a = answered_text (rw e p) a
-
-pub answered_long : (input : List ℕ) {out out' : List ℕ} {r : ℕ} → 65536 < length input → Appended out out' 0 r bad_input → Answered (Prints (outcome input)) out out' r
+pub prints_long : (input : List ℕ) → 65536 < length input → Prints (outcome input) bad_input
 unfolding outcome
-answered_long input h a = answered input (taken BadInput _ (lt-ltb 65536 (length input) h)) (prints_bad BadInput bad_input refl refl) a
+prints_long input h = prints_bad (outcome input) bad_input (taken BadInput _ (lt-ltb 65536 (length input) h)) refl
 
-pub answered_junk : (input : List ℕ) {out out' : List ℕ} {r : ℕ} → length input ≤ 65536 → list_of input ≡ none → Appended out out' 0 r bad_input → Answered (Prints (outcome input)) out out' r
+pub prints_junk : (input : List ℕ) → length input ≤ 65536 → list_of input ≡ none → Prints (outcome input) bad_input
 unfolding outcome judge_list
-answered_junk input h e a = answered input (left BadInput (le-ltb 65536 (length input) h) (ap judge_list e)) (prints_bad BadInput bad_input refl refl) a
+prints_junk input h e = prints_bad (outcome input) bad_input (left BadInput (le-ltb 65536 (length input) h) (ap judge_list e)) refl
 
-pub answered_list : (input : List ℕ) {table out out' : List ℕ} {count r : ℕ} → length input ≤ 65536 → Holds input table count → Judged table count out out' r → Answered (Prints (outcome input)) out out' r
+pub prints_list : (input : List ℕ) {table text : List ℕ} {count : ℕ} → length input ≤ 65536 → (w : Holds input table count) → Prints (judge w.numbers) text → Prints (outcome input) text
 unfolding outcome judge_list
-answered_list input h w j = answered input (left BadInput (le-ltb 65536 (length input) h) (ap judge_list w.listed)) (j.prints w.numbers w.stored) j.wrote
+prints_list input {text = text} h w p = subst (λ o. Prints o text) (sym (left BadInput (le-ltb 65536 (length input) h) (ap judge_list w.listed))) p

@@ -1,96 +1,91 @@
-// The text of a plan, piece by piece. Each function that puts a piece gives the place after it. A piece is written from `at` on, and must fit; the whole
-// text is written from the front, and asks for as many bytes as the longest has.
+// The text of a plan, piece by piece. Each piece must fit.
 ghost use Rattle.std.specs.Prelude.{◌≡◌, ◌+◌, ◌≤◌, ◌<◌, length};
 ghost use Rattle.star.specs.Rooms.{Square};
-ghost use Rattle.pieces.specs.Pieces.{Appended};
-ghost use Rattle.matrix_text.specs.Text.{head_text, totals_text, mark_after, cell_text, row_text, rows_text, plan_text, longest_text};
+ghost use Rattle.pieces.specs.Pieces.{HasRoom, Puts};
+ghost use Rattle.pieces.specs.Text.{named};
+ghost use Rattle.matrix_text.specs.Text.{head_text, totals_text, mark_after, row_text, rows_text, plan_text, longest_text};
 
-use pieces::{put_byte, put_marked, put_named};
+use pieces::Pieces;
+use planner::answers::Report;
 use star::tables::get;
+
+// The numbers before the demand, as the input has them: N, L and the rule.
+#[derive(Clone, Copy)]
+pub struct Head {
+    pub nodes: u32,
+    pub slots: u32,
+    pub rule: u32,
+}
 
 // The byte after the number of destination j.
 fn mark_after(n: usize, j: usize) -> u8
     requires { j < n }
     ensures { result ≡ mark_after n j }
 {
-    if j + 1 == n { 10 } else { 32 }
+    if j + 1 == n { b'\n' } else { b' ' }
 }
 
-// The number of destination j, and the byte after it.
-fn put_cell(out: &mut [u8], at: usize, n: usize, kept: &[u32], i: usize, j: usize) -> usize
-    requires square { (Square n kept.now) × (i < n) × (j < n) }
-    requires fits { at + length (cell_text n kept.now i j) ≤ length out.old }
-    ensures { Appended out.old out.new at result (cell_text n kept.now i j) }
-{
-    put_marked(out, at, get(n, kept, i, j) as u64, mark_after(n, j))
-}
-
-// The line of source i.
-fn put_row(out: &mut [u8], at: usize, n: usize, kept: &[u32], i: usize) -> usize
+// The line of source i: what it keeps of each destination.
+fn put_row(text: &mut Pieces, n: usize, kept: &[u32], i: usize)
     requires square { (Square n kept.now) × (i < n) }
-    requires fits { at + length (row_text n kept.now i) ≤ length out.old }
-    ensures { Appended out.old out.new at result (row_text n kept.now i) }
+    requires fits { HasRoom text.old (length (row_text n kept.now i)) }
+    ensures { Puts text.old text.new (row_text n kept.now i) }
 {
-    let mut next = at;
-    let mut j = 0;
-    while j < n {
-        next = put_cell(out, next, n, kept, i, j);
-        j += 1;
+    for j in 0..n {
+        text.put_marked(u64::from(get(n, kept, i, j)), mark_after(n, j));
     }
-    next
 }
 
 // A line for each source.
-fn put_rows(out: &mut [u8], at: usize, n: usize, kept: &[u32]) -> usize
+fn put_rows(text: &mut Pieces, n: usize, kept: &[u32])
     requires square { Square n kept.now }
-    requires fits { at + length (rows_text n kept.now) ≤ length out.old }
-    ensures { Appended out.old out.new at result (rows_text n kept.now) }
+    requires fits { HasRoom text.old (length (rows_text n kept.now)) }
+    ensures { Puts text.old text.new (rows_text n kept.now) }
 {
-    let mut next = at;
-    let mut i = 0;
-    while i < n {
-        next = put_row(out, next, n, kept, i);
-        i += 1;
+    for i in 0..n {
+        put_row(text, n, kept, i);
     }
-    next
+}
+
+// A word and a number of 32 bits, which has at most ten digits.
+fn put_word(text: &mut Pieces, word: &[u8], number: u32)
+    requires { HasRoom text.old (length word.now + 10) }
+    ensures puts { Puts text.old text.new (named word.now number) }
+    ensures short { length (named word.now number) ≤ length word.now + 10 }
+{
+    text.put_named(word, u64::from(number));
 }
 
 // Line 1.
-fn put_head(out: &mut [u8], at: usize, nodes: u32, slots: u32, rule: u32) -> usize
-    requires { at + length (head_text nodes slots rule) ≤ length out.old }
-    ensures { Appended out.old out.new at result (head_text nodes slots rule) }
+fn put_head(text: &mut Pieces, head: Head)
+    requires { HasRoom text.old 50 }
+    ensures puts { Puts text.old text.new (head_text head.nodes head.slots head.rule) }
+    ensures short { length (head_text head.nodes head.slots head.rule) ≤ 50 }
 {
-    let after_nodes = put_named(out, at, b"nodes ", nodes as u64);
-    let after_slots = put_named(out, after_nodes, b" slots ", slots as u64);
-    let after_rule = put_named(out, after_slots, b" rule ", rule as u64);
-    put_byte(out, after_rule, 10)
+    put_word(text, b"nodes ", head.nodes);
+    put_word(text, b" slots ", head.slots);
+    put_word(text, b" rule ", head.rule);
+    text.put_byte(b'\n');
 }
 
 // Line 2.
-fn put_totals(out: &mut [u8], at: usize, kept: u32, refused: u32) -> usize
-    requires { at + length (totals_text kept refused) ≤ length out.old }
-    ensures { Appended out.old out.new at result (totals_text kept refused) }
+fn put_totals(text: &mut Pieces, report: Report)
+    requires { HasRoom text.old 35 }
+    ensures puts { Puts text.old text.new (totals_text report.kept report.refused) }
+    ensures short { length (totals_text report.kept report.refused) ≤ 35 }
 {
-    let after_kept = put_named(out, at, b"kept ", kept as u64);
-    let after_refused = put_named(out, after_kept, b" refused ", refused as u64);
-    put_byte(out, after_refused, 10)
+    put_word(text, b"kept ", report.kept);
+    put_word(text, b" refused ", report.refused);
+    text.put_byte(b'\n');
 }
 
 // A plan without its schedule: line 1, line 2, and a line for each source.
-pub fn put_plan(
-    out: &mut [u8],
-    nodes: u32,
-    slots: u32,
-    rule: u32,
-    keeps: u32,
-    refuses: u32,
-    kept: &[u32],
-) -> usize
-    requires square { Square nodes kept.now }
-    requires room { longest_text ≤ length out.old }
-    ensures { Appended out.old out.new 0 result (plan_text nodes slots rule keeps refuses kept.now) }
+pub fn put_plan(text: &mut Pieces, head: Head, report: Report, kept: &[u32])
+    requires square { Square head.nodes kept.now }
+    requires room { HasRoom text.old longest_text }
+    ensures { Puts text.old text.new (plan_text head.nodes head.slots head.rule report.kept report.refused kept.now) }
 {
-    let after_head = put_head(out, 0, nodes, slots, rule);
-    let after_totals = put_totals(out, after_head, keeps, refuses);
-    put_rows(out, after_totals, nodes as usize, kept)
+    put_head(text, head);
+    put_totals(text, report);
+    put_rows(text, head.nodes as usize, kept);
 }

@@ -100,12 +100,9 @@ with_law w s i h =
           omega arith;
     }
 
--- where the test holds, and where it does not
+-- where the test holds
 pub with_where_added : {s i r : ℕ} {test : Bool} → test ≡ true → With s i r → WithWhere s i test r
 with_where_added t w = record { added = λ e. w.here; left = λ e. absurd (false≢true (sym e ∙ t)); other = w.other }
-
-pub with_where_left : {s i : ℕ} {test : Bool} → test ≡ false → WithWhere s i test s
-with_where_left t = record { added = λ e. absurd (false≢true (sym t ∙ e)); left = λ e. refl; other = λ j ne. refl }
 
 -- the or of a bit that is the test
 pub with_where_law : (s i : ℕ) (test : Bool) → i < 64 → WithWhere s i test (bit_or s ((bool_byte test * 2 ^ i) % 2 ^ 64))

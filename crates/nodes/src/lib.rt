@@ -16,7 +16,7 @@ pub fn none() -> u64
 pub fn all() -> u64
     ensures { All result }
 {
-    18446744073709551615
+    u64::MAX
 }
 
 // The set with node i.
@@ -32,11 +32,12 @@ pub fn with_where(s: u64, i: usize, test: bool) -> u64
     requires { i < 64 }
     ensures { WithWhere s i test result }
 {
-    s | ((test as u64) << i)
+    s | (u64::from(test) << i)
 }
 
 // The half with node i where the test holds, and else as it is. A half is a set of up to 32 nodes, of which the machine takes four at a time; the
-// answer is a choice, so that in a loop over other things the compiler makes the set of node i once.
+// answer is a choice, so that in a loop over other things the compiler makes the set of node i once. One function with `with_where` for both widths
+// would take that choice from the one, or bring the branch into the other.
 pub fn half_with_where(half: u32, i: usize, test: bool) -> u32
     requires { i < 32 }
     ensures { WithWhere half i test result }
@@ -48,7 +49,7 @@ pub fn half_with_where(half: u32, i: usize, test: bool) -> u32
 pub fn joined(low: u32, high: u32) -> u64
     ensures { Joined low high result }
 {
-    low as u64 | ((high as u64) << 32)
+    u64::from(low) | (u64::from(high) << 32)
 }
 
 // The set without node i.
@@ -73,7 +74,8 @@ pub fn minus(s: u64, t: u64) -> u64
     s ^ (s & t)
 }
 
-// The lowest node of the set, or 64 where it is empty.
+// The lowest node of the set, or 64 where it is empty. An Option is no plainer: whoever asks wants a node below n, and one comparison with n is
+// false both for an empty set and for one that has none of the n nodes.
 pub fn first(s: u64) -> usize
     ensures { First s result }
 {

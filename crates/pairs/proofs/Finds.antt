@@ -16,7 +16,7 @@ use Rattle.nodes.specs.Sets.{member, size, All, Without, Both, Minus, First}
 use Rattle.nodes.proofs.Members.{member_lt}
 use Rattle.nodes.proofs.Sizes.{size_without, size_parted}
 use Rattle.pairs.specs.Pairs.{allowed}
-use Rattle.pairs.specs.Ways.{CanSpread, Met, Opened, Leads, Shut, CanSearch, Searched}
+use Rattle.pairs.specs.Ways.{CanSpread, Met, Opened, Leads, CanSearch, Searched}
 
 -- `left` has the sources that no reached destination may hear, `todo` the destinations that are reached and not done
 pub record Finding (n : ℕ) (may destination next0 next : List ℕ) (sources destinations todo left : ℕ) : Type 0 where
@@ -51,16 +51,6 @@ find_start n may destination next sources destinations left c a =
       seen = λ i hi hd pos. absurd (none i hi hd pos);
       len = refl;
     }
-
-pub find_fail : {n : ℕ} {may destination next0 next : List ℕ} {sources destinations todo left j : ℕ} → Finding n may destination next0 next sources destinations todo left → First todo j → n ≤ j → Shut n may destination destinations
-find_fail {left = left} g f le = record {
-  rank = g.rank;
-  left = left;
-  roots = g.roots;
-  paired = g.paired;
-  reached = g.reached;
-  closed = λ i u hi hu pos e. g.closed i u hi hu pos (f.before u (omega arith)) e;
-}
 
 -- the ranks where the marked destinations are reached now
 abbrev relabel : (ℕ → ℕ) → ℕ → (ℕ → ℕ) → ℕ → ℕ

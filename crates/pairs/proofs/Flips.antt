@@ -1,6 +1,6 @@
 -- Moving along a way. With source i in hand all pairs stand but its own; the destinations of no higher rank than the one it moves to
 -- are as they were at the start, so the way goes on; and each step leaves one destination fewer as it was. The laws assume nothing.
-use mathlib.Core.Path.{◌≡◌, refl, sym, ap, ◌∙◌}
+use mathlib.Core.Path.{◌≡◌, sym, ap, ◌∙◌}
 use mathlib.Core.List.{List}
 use Prim.Native.Nat.{ℕ, ◌≤◌, ◌<◌}
 use native.Mathlib.Omega.{arith}
@@ -41,35 +41,6 @@ pub record Goes (n : ℕ) (source0 destination0 source destination next : List �
 -- how many destinations are as at the start
 pub same : (n : ℕ) (source0 source : List ℕ) → ℕ
 same n source0 source = sum_to n (λ u. hit (get_or source u 0) (get_or source0 u 0))
-
-pub go_start : {n : ℕ} {may source destination next : List ℕ} {r : ℕ} (c : CanFlip n may source destination next r)
-    → Going n may source destination source destination next c.way.rank r r n
-go_start {destination = destination} c = record {
-  source_len = refl;
-  destination_len = refl;
-  within = omega (arith, c.within);
-  source_most = c.paired.source_most;
-  destination_most = c.paired.destination_most;
-  back = c.paired.back;
-  forth = λ a ha ne. c.paired.forth a ha;
-  allows = c.paired.allows;
-  lone = λ lt u hu e. omega (
-    arith,
-    c.way.free,
-    c.paired.back u hu (omega (arith, e)),
-    ap (λ (x : ℕ). get_or destination x 0) e,
-  );
-  hop = λ lt. c.way.hop;
-  low = λ lt u hu le. refl;
-  stays = λ u hu lt. lt;
-  frees = λ u hu le q. le;
-  stored = λ lt. absurd (omega arith);
-  ended = λ le. absurd (omega (arith, c.within));
-  moved = λ a ha lt. lt;
-  others = λ a ha le ne. le;
-  hand = λ lt le. refl;
-  settled = λ ne. absurd (ne refl);
-}
 
 module _ {n : ℕ} {may source0 destination0 source destination next : List ℕ} {r i j : ℕ} (c : CanFlip n may source0 destination0 next r)
     (g : Going n may source0 destination0 source destination next c.way.rank r i j) (hi : i < n)

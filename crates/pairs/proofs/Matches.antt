@@ -16,7 +16,7 @@ use Rattle.nodes.specs.Sets.{member, size, All, Without, First}
 use Rattle.nodes.proofs.Members.{member_lt}
 use Rattle.nodes.proofs.Sizes.{size_without}
 use Rattle.arrays.specs.Arrays.{Filled}
-use Rattle.pairs.specs.Pairs.{allowed, partners, Paired, Unpaired, FreeNodes, Full, Stuck, Rooms, CanMatch, Matched}
+use Rattle.pairs.specs.Pairs.{allowed, partners, Paired, Unpaired, FreeNodes, Full, Stuck, Rooms, Matched}
 use Rattle.pairs.specs.Ways.{Fewer, Choice, Directed, CanSearch, Shut, Searched, CanFlip, Flipped}
 
 -- ---- free nodes: all at first, and one fewer with each pair
@@ -94,22 +94,8 @@ pub record Directing (n : ℕ) (may source0 destination0 source destination : Li
   pub source_len : length source ≡ length source0
   pub destination_len : length destination ≡ length destination0
 
-pub direct_start : {n : ℕ} {may source destination : List ℕ} {sources destinations : ℕ} → CanMatch n may source destination sources destinations
-    → Directing n may source destination source destination sources destinations destinations
-direct_start c = record {
-  paired = c.paired;
-  free = c.free;
-  sub = λ j hj e. e;
-  dry = λ j hj z e. absurd (omega arith);
-  source_len = refl;
-  destination_len = refl;
-}
-
 module _ {n : ℕ} {may source0 destination0 source destination : List ℕ} {sources destinations todo j : ℕ}
     (c : Rooms n may source0 destination0) (g : Directing n may source0 destination0 source destination sources destinations todo) (f : First todo j) where
-  pub direct_end : n ≤ j → Directed n may source destination sources destinations
-  direct_end le = record { paired = g.paired; free = g.free; dry = λ u hu. g.dry u hu (f.before u (omega arith)) }
-
   module _ (hj : j < n) {todo' : ℕ} (w : Without todo j todo') where
     here_todo : member j todo ≡ 1
     here_todo = f.found (omega (arith, c.nodes))
@@ -118,18 +104,6 @@ module _ {n : ℕ} {may source0 destination0 source destination : List ℕ} {sou
     direct_falls = omega (arith, size_without n todo todo' j hj here_todo w)
 
     module _ {i : ℕ} (ch : Choice n may sources j i) where
-      pub direct_skip : n ≤ i → Directing n may source0 destination0 source destination sources destinations todo'
-      direct_skip le = record {
-        paired = g.paired;
-        free = g.free;
-        sub = λ u hu e. g.sub u hu (was_in w u e);
-        dry = λ u hu z e a ha ea ok. by_eq u j
-            (λ q. ch.none le a ha ea (ap (λ (x : ℕ). allowed may a x) (sym q) ∙ ok))
-            (λ ne. g.dry u hu (sym (w.other u ne) ∙ z) e a ha ea ok);
-        source_len = g.source_len;
-        destination_len = g.destination_len;
-      }
-
       pub direct_pair : {sources' destinations' : ℕ} → i < n → Without sources i sources' → Without destinations j destinations'
           → Directing n may source0 destination0 (set source j i) (set destination i j) sources' destinations' todo'
       direct_pair {sources'} {destinations'} hi ws wd =
@@ -159,10 +133,6 @@ pub record Working (n : ℕ) (may source0 destination0 next0 source destination 
   pub source_len : length source ≡ length source0
   pub destination_len : length destination ≡ length destination0
   pub next_len : length next ≡ length next0
-
-pub work_start : {n : ℕ} {may source destination next : List ℕ} {sources destinations : ℕ} → Directed n may source destination sources destinations
-    → Working n may source destination next source destination next sources destinations
-work_start d = record { directed = d; source_len = refl; destination_len = refl; next_len = refl }
 
 module _ {n : ℕ} {may source0 destination0 next0 source destination next : List ℕ} {sources destinations : ℕ}
     (c : Rooms n may source0 destination0) (fits : n ≤ length next0) (g : Working n may source0 destination0 next0 source destination next sources destinations) where

@@ -11,7 +11,7 @@ use Rattle.nodes.specs.Sets.{member, size, With, Without, Both, First}
 use Rattle.nodes.proofs.Members.{member_lt}
 use Rattle.nodes.proofs.Sizes.{size_with, size_without}
 use Rattle.pairs.specs.Pairs.{allowed}
-use Rattle.pairs.specs.Ways.{Choice, CanSpread, From, Spread}
+use Rattle.pairs.specs.Ways.{Choice, CanSpread, From}
 
 -- ---- a source for a destination
 pub choice_law : (n : ℕ) (may : List ℕ) (sources j heard s r : ℕ) → heard ≡ get_or may j 0 → Both sources heard s → First s r → n ≤ 64 → Choice n may sources j r
@@ -47,35 +47,8 @@ pub record Spreading (n : ℕ) (may destination next0 next : List ℕ) (sources 
   pub none : (k : ℕ) → k < n → member k reached ≡ 1 → member k todo ≡ 0 → From n destination new k
   pub many : size n reached + size n left ≤ size n todo + size n new
 
-pub spread_start : (n : ℕ) (may destination next : List ℕ) (sources new j todo : ℕ) → Spreading n may destination next next sources new j todo todo new
-spread_start n may destination next sources new j todo = record {
-  len = refl;
-  sub = λ i e. e;
-  passed = λ i hi e z. absurd (omega arith);
-  rest = λ i hi z. refl;
-  kept = λ k hk e. e;
-  none = λ k hk e z. absurd (omega arith);
-  many = omega arith;
-}
-
 module _ {n : ℕ} {may destination next0 next : List ℕ} {sources new j todo reached left : ℕ}
     (c : CanSpread n may destination next0 sources new j) (g : Spreading n may destination next0 next sources new j todo reached left) {i : ℕ} (f : First left i) where
-  pub spread_open : n ≤ i → Spread n may destination next0 next sources new j todo n reached
-  spread_open le =
-      let all : (u : ℕ) → u < n → member u new ≡ 1 → Moves n may destination next sources j reached u = λ u hu e. g.passed u hu e (f.before u (omega arith)) in
-      record {
-        met = λ lt. absurd (omega arith);
-        none = λ e. record {
-          moves = λ u hu e. (all u hu e).moves;
-          rest = g.rest;
-          come = λ u hu e. (all u hu e).come;
-          dry = λ u hu e. (all u hu e).dry;
-          kept = g.kept;
-          none = g.none;
-          many = omega (arith, g.many);
-        };
-      }
-
   module _ (hi : i < n) where
     here_left : member i left ≡ 1
     here_left = f.found (omega (arith, c.nodes))
@@ -95,23 +68,6 @@ module _ {n : ℕ} {may destination next0 next : List ℕ} {sources new j todo r
       spread_within = rw ek (c.paired i hi here_new)
 
       module _ {r : ℕ} (ch : Choice n may sources k r) where
-        pub spread_met : r < n → Spread n may destination next0 (set (set next i j) r k) sources new j todo r reached
-        spread_met hr =
-            let apart : (i ≡ r → ⊥) = λ e. omega (arith, c.paired i hi here_new, c.free.out r hr (ch.among hr), ap (λ (x : ℕ). get_or destination x 0) e) in
-            record {
-              met = λ lt. record {
-                who = i;
-                within = hi;
-                among = here_new;
-                moves = get_or-set_other (set next i j) r i k 0 apart ∙ get_or-set_same next i j 0 (omega (arith, fits));
-                free = ch.among hr;
-                meets = get_or-set_same (set next i j) r k 0 (omega (arith, length-set next i j, fits)) ∙ ek;
-                allows = ap (allowed may r) (sym ek) ∙ ch.allows hr;
-                rest = λ u hu z ne. get_or-set_other (set next i j) r u k 0 ne ∙ still u hu z;
-              };
-              none = λ le. absurd (omega arith);
-            }
-
         module _ (le : n ≤ r) {reached' left' : ℕ} (wi : With reached k reached') (wo : Without left i left') where
           more : (u : ℕ) → member u reached ≡ 1 → member u reached' ≡ 1
           more u e = by_eq u k (λ q. rw q wi.here) (λ ne. wi.other u ne ∙ e)

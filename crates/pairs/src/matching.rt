@@ -20,8 +20,8 @@ fn direct(n: usize, may: &[u64], source: &mut [u8], destination: &mut [u8], free
         let j = nodes::first(todo);
         if j >= n {
             return Free {
-                sources: sources,
-                destinations: destinations,
+                sources,
+                destinations,
             };
         }
         todo = nodes::without(todo, j);
@@ -56,8 +56,8 @@ fn search_all(
         let r = search::search(n, may, destination, next, sources, destinations);
         if r >= n {
             return Free {
-                sources: sources,
-                destinations: destinations,
+                sources,
+                destinations,
             };
         }
         let e = flip::flip(n, source, destination, next, r);

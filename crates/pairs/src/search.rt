@@ -5,7 +5,7 @@ ghost use Rattle.pairs.specs.Ways.{Choice, CanSpread, Spread, CanSearch, Searche
 
 use arrays::lists;
 
-// One of the sources that destination j may hear; n or above where there is none.
+// One of the sources that destination j may hear; n or above where there is none, as `nodes::first` answers: one comparison with n tells.
 pub fn choice(n: usize, may: &[u64], sources: u64, j: usize) -> usize
     requires { (n ≤ 64) × (n ≤ length may.now) × (j < n) }
     ensures { Choice n may.now sources j result }
@@ -13,7 +13,8 @@ pub fn choice(n: usize, may: &[u64], sources: u64, j: usize) -> usize
     nodes::first(nodes::both(sources, lists::set_at(may, j)))
 }
 
-// What a step of the search gives: a free source from which a way is found, or n, and the destinations that are to do.
+// What a step of the search gives: a free source from which a way is found, or n, and the destinations that are to do. No Option: what is found is what
+// `choice` answers, and `search` passes it on, so that one comparison with n is made for all three.
 #[derive(Drop)]
 struct Step {
     found: usize,

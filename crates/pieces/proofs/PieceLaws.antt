@@ -5,56 +5,59 @@ use native.Mathlib.Nat.{mul-le-mul_right}
 use native.Mathlib.Numerals.{add-one}
 use native.Mathlib.Omega.{arith}
 use mathlib.Core.Path.{◌≡◌, refl, sym, ◌∙◌, ap, ap₂}
-use mathlib.Core.List.{List, [], ◌∷◌, ◌++◌, append_assoc, append-nil}
-use lib.ListN.{length, get_or, take, drop, set, length-append, take-append-drop, get_or-append}
-use lib.Seq.{take_at, drop-drop, drop-append-add, get_or-append-add, set_split, take-length, length-take-le, append_snoc, paste}
+use mathlib.Core.List.{List, [], ◌++◌, append_assoc, append-nil}
+use lib.ListN.{length, get_or, take, drop, length-append, take-append-drop, get_or-append}
+use lib.Seq.{take_at, drop-drop, drop-append-add, get_or-append-add, length-take-le}
 use Rattle.sums.specs.Tables.{written}
 use Rattle.sums.proofs.Cases.{by_lt}
-use Rattle.pieces.specs.Pieces.{Appended, join_to, Answered}
+use Rattle.pieces.specs.declared.Pieces.{Pieces}
+use Rattle.pieces.specs.Pieces.{Appended, Puts, join_to, Answered}
 
 -- ---- pieces
-pub appended_none : (out : List ℕ) (at : ℕ) → Appended out out at at []
+appended_none : (out : List ℕ) (at : ℕ) → Appended out out at at []
 appended_none out at = record { end = omega arith; bytes = sym (take-append-drop at out) ∙ ap (λ l. l ++ drop at out) (sym (append-nil (take at out))) }
 
-pub appended_byte : (out : List ℕ) (at b : ℕ) → at < length out → Appended out (set out at b) at (at + 1) (b ∷ [])
-appended_byte out at b fits = record {
-  end = refl;
-  bytes = set_split out at b fits ∙ sym (append_snoc (take at out) b (drop (suc at) out)) ∙ ap (λ k. take at out ++ (b ∷ []) ++ drop k out) (sym (add-one at));
-}
+pub puts_none : (pieces : Pieces) → Puts pieces pieces []
+puts_none pieces = record { same = refl; lent = refl; put = appended_none pieces.out.now pieces.at }
 
--- all of a text is copied
-pub appended_copy : (out text : List ℕ) (at : ℕ) → Appended out (paste out at text (length text)) at (at + length text) text
-appended_copy out text at = record { end = refl; bytes = ap (λ l. take at out ++ l ++ drop (at + length text) out) (take-length text) }
-
--- what is written from the front on
-pub appended_front : (out out' text : List ℕ) (r : ℕ) → Appended out out' 0 r text → out' ≡ written (length text) text out
+-- what is put from the front on is written there
+pub puts_front : {before after : Pieces} {text : List ℕ} → before.at ≡ 0 → Puts before after text → after.out.now ≡ written (length text) text before.out.now
 unfolding written
-appended_front out out' text r a = let e : r ≡ length text = omega (arith, a.end) in a.bytes ∙ ap (λ k. text ++ drop k out) e
+puts_front {before} {after} {text} start puts =
+    let end : after.at ≡ length text = omega (arith, puts.put.end) in
+    puts.put.bytes ∙ ap (λ k. take k before.out.now ++ text ++ drop after.at before.out.now) start ∙ ap (λ k. text ++ drop k before.out.now) end
 
 -- one piece after another
-module _ {out mid out' : List ℕ} {at next at' : ℕ} {text more : List ℕ} (fits : at + length text ≤ length out) (a : Appended out mid at next text) (b : Appended mid out' next at' more) where
-  first_length : length (take at out ++ text) ≡ next
-  first_length = length-append (take at out) text ∙ omega (arith, length-take-le at out (omega arith), a.end)
+module _ {before mid after : Pieces} {piece more : List ℕ} (first : Puts before mid piece) (next : Puts mid after more) where
+  abbrev front : List ℕ
+  front = take before.at before.out.now
 
-  mid_first : take next mid ≡ take at out ++ text
-  mid_first = ap (take next) a.bytes ∙ take_at (take at out ++ text) (drop next out) next first_length
+  front_length : length (front ++ piece) ≡ mid.at
+  front_length = length-append front piece ∙ omega (arith, length-take-le before.at before.out.now before.inside, first.put.end)
 
-  mid_rest : drop at' mid ≡ drop at' out
+  mid_first : take mid.at mid.out.now ≡ front ++ piece
+  mid_first = ap (take mid.at) first.put.bytes ∙ take_at (front ++ piece) (drop mid.at before.out.now) mid.at front_length
+
+  mid_rest : drop after.at mid.out.now ≡ drop after.at before.out.now
   mid_rest =
-      ap (drop at') a.bytes
-      ∙ ap (λ k. drop k (take at out ++ text ++ drop next out)) (b.end ∙ ap (λ k. k + length more) (sym first_length))
-      ∙ drop-append-add (take at out ++ text) (drop next out) (length more)
-      ∙ drop-drop (length more) next out
-      ∙ ap (λ k. drop k out) (sym b.end)
+      ap (drop after.at) first.put.bytes
+      ∙ ap (λ k. drop k (front ++ piece ++ drop mid.at before.out.now)) (next.put.end ∙ ap (λ k. k + length more) (sym front_length))
+      ∙ drop-append-add (front ++ piece) (drop mid.at before.out.now) (length more)
+      ∙ drop-drop (length more) mid.at before.out.now
+      ∙ ap (λ k. drop k before.out.now) (sym next.put.end)
 
-  pub appended_more : Appended out out' at at' (text ++ more)
-  appended_more = record {
-    end = omega (arith, a.end, b.end, length-append text more);
-    bytes =
-        b.bytes
-        ∙ ap (λ l. l ++ more ++ drop at' mid) mid_first
-        ∙ ap (λ l. take at out ++ text ++ more ++ l) mid_rest
-        ∙ ap (λ l. l ++ drop at' out) (append_assoc (take at out) text more);
+  pub puts_more : Puts before after (piece ++ more)
+  puts_more = record {
+    same = next.same ∙ first.same;
+    lent = next.lent ∙ first.lent;
+    put = record {
+      end = omega (arith, first.put.end, next.put.end, length-append piece more);
+      bytes =
+          next.put.bytes
+          ∙ ap (λ l. l ++ more ++ drop after.at mid.out.now) mid_first
+          ∙ ap (λ l. front ++ piece ++ more ++ l) mid_rest
+          ∙ ap (λ l. l ++ drop after.at before.out.now) (append_assoc front piece more);
+    };
   }
 
 -- ---- pieces in a row
@@ -109,10 +112,17 @@ module _ (f : ℕ → List ℕ) where
       rw (e, ← before) (get_or-append-add (join_to n f) (f n) b 0))
 
 -- ---- a text from the front
-module _ {promised : List ℕ → Type 0} {out out' : List ℕ} {k : ℕ} where
-  pub answered_text : {text : List ℕ} → promised text → Appended out out' 0 k text → Answered promised out out' k
-  answered_text {text} p a = record { text = text; prints = p; bytes = appended_front out out' text k a; end = omega (arith, a.end) }
+-- a promised text that is put from the front on is an answer
+pub answered_text : {promised : List ℕ → Type 0} {before after : Pieces} {out out' text : List ℕ} {k : ℕ} → before.out.now ≡ out → before.at ≡ 0 → promised text → Puts before after text →
+    out' ≡ after.out.now → k ≡ after.at → Answered promised out out' k
+answered_text {text = text} lent start p puts kept end = record {
+  text = text;
+  prints = p;
+  bytes = kept ∙ puts_front start puts ∙ ap (written (length text) text) lent;
+  end = omega (arith, start, end, puts.put.end);
+}
 
+module _ {promised : List ℕ → Type 0} {out out' : List ℕ} {k : ℕ} where
   -- it lies within the lent bytes
   pub answered_within : Answered promised out out' k → k ≤ length out'
   unfolding written

@@ -1,7 +1,7 @@
 -- Decimal digits and how many there are; how long a text is, and that a refusal's line fits. The laws assume nothing.
 use Prim.Native.Nat.{ℕ, zero, suc, ◌+◌, ◌/◌, ◌%◌, ◌^◌, ◌≤◌, ◌<◌}
 use native.Mathlib.Omega.{arith}
-use native.Mathlib.Nat.{pow-suc}
+use native.Mathlib.Nat.{mod-eq_of_lt, pow-suc}
 use mathlib.Core.Path.{◌≡◌, refl, ap}
 use mathlib.Core.List.{List, [], ◌∷◌, ◌++◌}
 use lib.ListN.{length, length-append}
@@ -21,9 +21,9 @@ turns_enough (suc m) (suc k) n hm hk =
     (λ low. rw (lt-ltb n 10 low, digits_in) refl)
     (λ high. rw (le-ltb n 10 high, digits_in) (ap (λ l. l ++ ((48 + n % 10) ∷ [])) (turns_enough m k (n / 10) (omega arith) (omega arith))))
 
-pub decimal_digit : (n : ℕ) → n < 10 → decimal n ≡ (48 + n) ∷ []
+pub decimal_digit : (n : ℕ) → n < 10 → decimal n ≡ (48 + n % 10) ∷ []
 unfolding decimal digits_in
-decimal_digit n low = rw (lt-ltb n 10 low, digits_in)
+decimal_digit n low = rw (lt-ltb n 10 low, digits_in, mod-eq_of_lt low)
 
 pub decimal_more : (n : ℕ) → 10 ≤ n → decimal n ≡ decimal (n / 10) ++ ((48 + n % 10) ∷ [])
 unfolding decimal digits_in

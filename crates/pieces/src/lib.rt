@@ -1,77 +1,108 @@
-// Bytes written piece by piece, and the text that the programs share. Each function that puts a piece gives the place after it. A piece is written from
-// `at` on, and must fit; the two whole texts, of bad input and of a refusal, are written from the front, and ask for room for the longest.
+// Bytes written piece by piece, and the text that the programs share. Weighed: std's `Write` and `write!`, whose contracts let any write fail, and say
+// nothing of what a lent slice holds then.
 #![tactic(auto)]
 
-ghost use Rattle.std.specs.Prelude.{[], ◌∷◌, ◌+◌, ◌<◌, ◌≤◌, length};
-ghost use Rattle.pieces.specs.Pieces.{Appended};
-ghost use Rattle.pieces.specs.Text.{decimal, named, marked, bad_input, refusal_text, line_room};
+ghost use Rattle.std.specs.Prelude.{◌≤◌, length};
 
-// One byte.
-pub fn put_byte(out: &mut [u8], at: usize, b: u8) -> usize
-    requires { at < length out.old }
-    ensures { Appended out.old out.new at result (b ∷ []) }
-{
-    out[at] = b;
-    at + 1
+// Bytes that are lent, and how many of them are written, piece by piece from the front.
+#[derive(Drop)]
+pub struct Pieces<'a> {
+    out: &'a mut [u8],
+    at: usize,
+    ghost inside: { at ≤ length out.now },
 }
 
-// These bytes.
-pub fn put_bytes(out: &mut [u8], at: usize, bytes: &[u8]) -> usize
-    requires { at + length bytes.now ≤ length out.old }
-    ensures { Appended out.old out.new at result bytes.now }
-{
-    let mut k = 0;
-    while k < bytes.len() {
-        out[at + k] = bytes[k];
-        k += 1;
+impl<'a> Pieces<'a> {
+    ghost use Rattle.std.specs.Prelude.{◌≡◌};
+
+    // No piece is written yet.
+    pub fn new(out: &'a mut [u8]) -> Pieces<'a>
+        ensures same { result.out.ghost_name ≡ out.entry.ghost_name }
+        ensures bytes { result.out.now ≡ out.old }
+        ensures start { result.at ≡ 0 }
+    {
+        Pieces { out, at: 0 }
     }
-    at + k
-}
 
-// A number without leading zeros: what stands before its last digit, and that digit.
-pub fn put_number(out: &mut [u8], at: usize, n: u64) -> usize
-    requires { at + length (decimal n) ≤ length out.old }
-    ensures { Appended out.old out.new at result (decimal n) }
-{
-    if n < 10 {
-        return put_byte(out, at, 48 + n as u8);
+    // How many bytes are written.
+    pub fn length(&self) -> usize
+        ensures { result ≡ self.now.at }
+    {
+        self.at
     }
-    let next = put_number(out, at, n / 10);
-    put_byte(out, next, 48 + (n % 10) as u8)
 }
 
-// A number and the byte after it.
-pub fn put_marked(out: &mut [u8], at: usize, n: u64, mark: u8) -> usize
-    requires { at + length (marked n mark) ≤ length out.old }
-    ensures { Appended out.old out.new at result (marked n mark) }
-{
-    let next = put_number(out, at, n);
-    put_byte(out, next, mark)
-}
+// Each method puts a piece behind those before it. It must fit.
+impl Pieces<'_> {
+    ghost use Rattle.std.specs.Prelude.{[], ◌∷◌};
+    ghost use Rattle.pieces.specs.Pieces.{HasRoom, Puts};
+    ghost use Rattle.pieces.specs.Text.{decimal, named, marked, bad_input, refusal_text, line_room};
 
-// A word and a number.
-pub fn put_named(out: &mut [u8], at: usize, word: &[u8], n: u64) -> usize
-    requires { at + length (named word.now n) ≤ length out.old }
-    ensures { Appended out.old out.new at result (named word.now n) }
-{
-    let next = put_bytes(out, at, word);
-    put_number(out, next, n)
-}
+    // One byte.
+    pub fn put_byte(&mut self, b: u8)
+        requires { HasRoom self.old 1 }
+        ensures { Puts self.old self.new (b ∷ []) }
+    {
+        self.out[self.at] = b;
+        self.at += 1;
+    }
 
-// `bad input`, and a line feed.
-pub fn put_bad_input(out: &mut [u8]) -> usize
-    requires { line_room ≤ length out.old }
-    ensures { Appended out.old out.new 0 result bad_input }
-{
-    put_bytes(out, 0, b"bad input\n")
-}
+    // These bytes.
+    pub fn put_bytes(&mut self, bytes: &[u8])
+        requires { HasRoom self.old (length bytes.now) }
+        ensures { Puts self.old self.new bytes.now }
+    {
+        let end = self.at + bytes.len();
+        self.out[self.at..end].copy_from_slice(bytes);
+        self.at = end;
+    }
 
-// A refusal: one line with its number and its place.
-pub fn put_refusal(out: &mut [u8], number: u64, place: u64) -> usize
-    requires { line_room ≤ length out.old }
-    ensures { Appended out.old out.new 0 result (refusal_text number place) }
-{
-    let after_number = put_named(out, 0, b"refused ", number);
-    let after_place = put_named(out, after_number, b" ", place);
-    put_byte(out, after_place, 10)
+    // A number without leading zeros: what stands before its last digit, and that digit.
+    pub fn put_number(&mut self, n: u64)
+        requires { HasRoom self.old (length (decimal n)) }
+        ensures { Puts self.old self.new (decimal n) }
+    {
+        if n >= 10 {
+            self.put_number(n / 10);
+        }
+        self.put_byte(b'0' + (n % 10) as u8);
+    }
+
+    // A number and the byte after it.
+    #[tactic(auto, using(crate::proofs::PieceLaws::puts_more), unfolding(crate::specs::Text::marked))]
+    pub fn put_marked(&mut self, n: u64, mark: u8)
+        requires { HasRoom self.old (length (marked n mark)) }
+        ensures { Puts self.old self.new (marked n mark) }
+    {
+        self.put_number(n);
+        self.put_byte(mark);
+    }
+
+    // A word and a number.
+    #[tactic(auto, unfolding(crate::specs::Text::named))]
+    pub fn put_named(&mut self, word: &[u8], n: u64)
+        requires { HasRoom self.old (length (named word.now n)) }
+        ensures { Puts self.old self.new (named word.now n) }
+    {
+        self.put_bytes(word);
+        self.put_number(n);
+    }
+
+    // `bad input`, and a line feed.
+    pub fn put_bad_input(&mut self)
+        requires { HasRoom self.old line_room }
+        ensures { Puts self.old self.new bad_input }
+    {
+        self.put_bytes(b"bad input\n");
+    }
+
+    // A refusal: one line with its number and its place.
+    pub fn put_refusal(&mut self, number: u64, place: u64)
+        requires { HasRoom self.old line_room }
+        ensures { Puts self.old self.new (refusal_text number place) }
+    {
+        self.put_named(b"refused ", number);
+        self.put_named(b" ", place);
+        self.put_byte(b'\n');
+    }
 }

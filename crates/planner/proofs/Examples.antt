@@ -5,12 +5,11 @@ use mathlib.Core.Path.{◌≡◌, refl}
 use mathlib.Core.List.{List, [], ◌∷◌}
 use Rattle.sums.specs.Searches.{first_below, first_from}
 use Rattle.star.specs.declared.refusals.Refusal.TheVariants.{TableShort, DemandAbove}
-use Rattle.star.specs.declared.refusals.Verdict.TheVariants as verdict
-use Rattle.star.specs.Refusals.{Notice, notice, notice_of, first_above}
+use Rattle.star.specs.Refusals as verdict
+use Rattle.star.specs.Refusals.{verdict_of, Notice, notice, notice_of, first_above}
 use Rattle.star.specs.Checks.{sizes_verdict, rule_verdict, demand_short_verdict, demand_above_verdict, refuse, then}
 use Rattle.planner.specs.declared.answers.Report.{Report}
-use Rattle.planner.specs.declared.answers.Answer.TheVariants.{Planned, Refused}
-use Rattle.planner.specs.Plans.{verdict_of, report_of}
+use Rattle.planner.specs.Plans.{Planned, Refused, report_of}
 use Rattle.planner.specs.Checks.{lent_short_verdict, plan_verdict}
 
 -- given how many cells kept, withdrawn and schedule have

@@ -1,5 +1,5 @@
--- The parts of a plan make a plan: what was kept by the rule, what carries it, and what is reported. And the checks of a plan. Assumes nothing.
-use Prim.Native.Nat.{ℕ, ◌-◌, ◌*◌, ◌/◌, ◌%◌, ◌≤◌, ◌<◌}
+-- What is admissible fits the whole frame, and no pair keeps more than it asks. And the checks of a plan. Assumes nothing.
+use Prim.Native.Nat.{ℕ, ◌*◌, ◌/◌, ◌%◌, ◌≤◌, ◌<◌}
 use native.Mathlib.Omega.{arith}
 use mathlib.Core.Path.{◌≡◌, refl}
 use mathlib.Core.List.{List}
@@ -9,19 +9,16 @@ use Rattle.sums.specs.Tables.{cell}
 use Rattle.sums.proofs.Sums.{sum_mono}
 use Rattle.sums.proofs.Cases.{by_eq}
 use Rattle.sums.proofs.Tables.{place_split, at_place}
-use Rattle.star.specs.declared.refusals.Verdict.TheVariants.{Accepted}
-use Rattle.star.specs.Refusals.{notice_of, Sizes}
+use Rattle.star.specs.Refusals.{Accepted, notice_of, Sizes}
 use Rattle.star.specs.Tables.{Demands}
 use Rattle.star.specs.Lines.{total, whole_frame, Admissible}
 use Rattle.star.specs.Checks.{sizes_verdict, rule_verdict, demand_short_verdict, demand_above_verdict, then}
 use Rattle.star.proofs.RefusalLaws.{passes, in_numbers, passed, then_goes, then_passed, group_in_numbers, neither, neither_of, sizes_fit, sized, rule_fits, ruled, demand_fits, long_demand, demand_within, within}
 use Rattle.star.proofs.LineLaws.{capacity, whole_frame_fits}
-use Rattle.slots.specs.Places.{Places}
 use Rattle.fair.proofs.Steps.{fair_below}
 use Rattle.least.proofs.Keeping.{kept_below}
-use Rattle.planner.specs.declared.answers.Report.{Report}
-use Rattle.planner.specs.Plans.{plan_notice, Plan, PlanDone}
-use Rattle.planner.specs.Work.{KeepRoom, KeptByRule, PlanRoom}
+use Rattle.planner.specs.Plans.{plan_notice, Plan}
+use Rattle.planner.specs.Work.{PlanRoom}
 use Rattle.planner.specs.Lent.{Lent, LentRoom}
 use Rattle.planner.specs.Checks.{lent_short_verdict, plan_verdict}
 use Rattle.planner.proofs.KeptLaws.{as_below}
@@ -32,38 +29,9 @@ unfolding total
 total_below n d k below = sum_mono n _ _ (λ i p. sum_mono n _ _ (λ j q. below i j p q))
 
 module _ {n l rule : ℕ} {cap d : List ℕ} {k : Lent} (room : PlanRoom n l rule cap d k) where
-  pub keep_room : KeepRoom n cap d k.kept k.withdrawn
-  keep_room = record {
-    some_nodes = room.sizes.some_nodes;
-    demand = record { nodes = room.sizes.nodes; cells = room.demand };
-    within = room.within;
-    capacities = record { lines = room.lines; most = λ ℓ p. omega (arith, room.most ℓ p, room.sizes.slots) };
-    kept_room = room.tables.kept;
-    withdrawn_room = room.tables.withdrawn;
-  }
-
   -- no capacity is above L, so what is admissible fits the whole frame
   pub fits_frame : (x : List ℕ) → Admissible n cap x → Admissible n (whole_frame n l) x
   fits_frame x h = record { lines = λ ℓ p. omega (arith, h.lines ℓ p, room.most ℓ p, capacity n l ℓ p) }
-
--- what was kept by the rule, and then placed and counted; placing leaves the kept table as it was
-pub written_plan : {n l rule : ℕ} {cap d m : List ℕ} {k k' : Lent} {f : Report} → KeptByRule n rule cap d k.kept k.withdrawn m k'.withdrawn →
-    Places n l m k.schedule k'.kept k'.schedule f.reconfigurations → length k'.kept ≡ length k.kept → length k'.withdrawn ≡ length k.withdrawn →
-    length k'.schedule ≡ length k.schedule → f.kept ≡ total n k'.kept → f.refused ≡ total n d - total n k'.kept → PlanDone n l rule cap d k k' f
-written_plan {n} {l} {rule} {cap} {d} {m} {k} {k'} by-rule placed Kept-same withdrawn-same schedule-same kept-sum refused-sum =
-    let kd : KeptByRule n rule cap d k.kept k.withdrawn k'.kept k'.withdrawn = rw placed.same by-rule in
-    record {
-      wrote = record {
-        plan = record { fair = kd.fair; least = λ e. kd.least (λ z. omega arith); carried = rw placed.same placed.carries };
-        kept_length = Kept-same;
-        withdrawn_length = withdrawn-same;
-        schedule_length = schedule-same;
-        kept_rest = kd.kept_rest;
-        withdrawn_rest = kd.withdrawn_rest;
-        schedule_rest = placed.beyond;
-      };
-      figures = record { kept_total = kept-sum; refused_total = refused-sum; reconfigured = placed.changed };
-    }
 
 -- no pair keeps more than it asks
 pub plan_below : {n l rule : ℕ} {cap d : List ℕ} {k : Lent} → rule ≤ 1 → Plan n l rule cap d k → (i j : ℕ) → i < n → j < n → cell n k.kept i j ≤ cell n d i j

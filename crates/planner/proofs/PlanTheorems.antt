@@ -12,7 +12,9 @@ use Rattle.sums.specs.Tables.{cell, tab, square}
 use Rattle.sums.proofs.Cases.{by_eq}
 use Rattle.sums.proofs.Sums.{sum_ext, sum_add}
 use Rattle.sums.proofs.Tables.{take_cell, first_cells}
-use Rattle.star.specs.declared.refusals.Verdict.TheVariants as verdict
+use Rattle.std.specs.Prelude.{Ok, Err}
+use Rattle.star.specs.Refusals as verdict
+use Rattle.star.specs.Refusals.{verdict_of}
 use Rattle.star.specs.Tables.{Alike}
 use Rattle.star.specs.Lines.{total, whole_frame, line_sum, on_line, source_on, destination_on, Admissible}
 use Rattle.star.specs.Checks.{demand_short_verdict, demand_above_verdict}
@@ -27,9 +29,7 @@ use Rattle.least.proofs.Counts.{counts_admissible}
 use Rattle.least.proofs.Keeping.{kept_admissible, refused_total}
 use Rattle.least.proofs.LeastIsLeast.{least_is_least}
 use Rattle.planner.specs.declared.answers.Report.{Report}
-use Rattle.planner.specs.declared.answers.Answer.{Answer}
-use Rattle.planner.specs.declared.answers.Answer.TheVariants.{Planned, Refused}
-use Rattle.planner.specs.Plans.{verdict_of, report_of, Plan, PlanDone, PlanResult}
+use Rattle.planner.specs.Plans.{Answer, report_of, Plan, PlanDone, PlanResult}
 use Rattle.planner.specs.Theorems.{SoundPlan, LeastPlan, SamePlans, SameResults, SameAsNeeded, WrongPlanners, PlanTheorems}
 use Rattle.planner.specs.Lent.{Lent, lent, LentRoom}
 use Rattle.planner.specs.Checks.{plan_verdict}
@@ -119,19 +119,19 @@ plan_smallest r result ok s free = (plan_least (result.accepted ok)).smallest s 
 
 pub plan_lengths : {n l rule : ℕ} {d : List ℕ} {k k' : Lent} (r : Answer) → PlanResult n l rule d k k' r →
     (length k'.kept ≡ length k.kept) × (length k'.withdrawn ≡ length k.withdrawn) × (length k'.schedule ≡ length k.schedule)
-plan_lengths (Planned f) result = let w = (result.accepted refl).wrote in (w.kept_length, w.withdrawn_length, w.schedule_length)
-plan_lengths (Refused x) result = let same = result.refused x refl in (ap (λ t. length t.kept) same, ap (λ t. length t.withdrawn) same, ap (λ t. length t.schedule) same)
+plan_lengths (Ok f) result = let w = (result.accepted refl).wrote in (w.kept_length, w.withdrawn_length, w.schedule_length)
+plan_lengths (Err x) result = let same = result.refused x refl in (ap (λ t. length t.kept) same, ap (λ t. length t.withdrawn) same, ap (λ t. length t.schedule) same)
 
 -- ---- two results
 -- with the same verdict, on demands that agree at each pair
 agreed : {n l rule : ℕ} {d e : List ℕ} {k k₁ x k₂ : Lent} (r₁ r₂ : Answer) → PlanResult n l rule d k k₁ r₁ → PlanResult n l rule e x k₂ r₂ →
     ((i j : ℕ) → i < n → j < n → cell n d i j ≡ cell n e i j) → verdict_of r₁ ≡ verdict_of r₂ → SameAsNeeded n rule k₁ k₂ r₁ r₂
-agreed (Planned f) (Planned g) x₁ x₂ same verdicts =
-    let plans = plan_same (known_rule (Planned f) x₁ refl) same (x₁.accepted refl) (x₂.accepted refl) in
+agreed (Ok f) (Ok g) x₁ x₂ same verdicts =
+    let plans = plan_same (known_rule (Ok f) x₁ refl) same (x₁.accepted refl) (x₂.accepted refl) in
     record { verdicts = verdicts; kept_totals = plans.kept_totals; refused_totals = plans.refused_totals; plans = λ _. plans }
-agreed (Planned f) (Refused z) x₁ x₂ same verdicts = absurd (never (sym verdicts))
-agreed (Refused y) (Planned g) x₁ x₂ same verdicts = absurd (never verdicts)
-agreed (Refused y) (Refused z) x₁ x₂ same verdicts = record { verdicts = verdicts; kept_totals = refl; refused_totals = refl; plans = λ ok. absurd (never ok) }
+agreed (Ok f) (Err z) x₁ x₂ same verdicts = absurd (never (sym verdicts))
+agreed (Err y) (Ok g) x₁ x₂ same verdicts = absurd (never verdicts)
+agreed (Err y) (Err z) x₁ x₂ same verdicts = record { verdicts = verdicts; kept_totals = refl; refused_totals = refl; plans = λ ok. absurd (never ok) }
 
 -- lists that agree in their first cells and in the further ones are one
 glue : (m : ℕ) (x y : List ℕ) → take m x ≡ take m y → drop m x ≡ drop m y → x ≡ y

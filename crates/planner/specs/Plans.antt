@@ -1,27 +1,29 @@
 -- A plan of a demand; the entry `plan`: which refusal it gives, in which order, what it reports, and what its tables then hold.
-use Rattle.std.specs.Prelude.{ℕ, ◌-◌, ◌*◌, ◌≡◌, List, length, take, drop, replicate}
-use Rattle.star.specs.declared.refusals.Verdict.{Verdict}
-use Rattle.star.specs.declared.refusals.Verdict.TheVariants as verdict
-use Rattle.star.specs.Refusals.{Notice, accepted, check, Promise, nodes_out, slots_out, rule_out, short, some_cell, first_above}
+use Rattle.std.specs.Prelude.{ℕ, ◌-◌, ◌*◌, ◌≡◌, List, length, take, drop, replicate, Result, Ok, Err}
+use Rattle.star.specs.declared.refusals.Refusal.{Refusal}
+use Rattle.star.specs.Refusals.{verdict_of, Notice, accepted, check, Promise, nodes_out, slots_out, rule_out, short, some_cell, first_above}
 use Rattle.star.specs.Lines.{total, whole_frame}
 use Rattle.star.specs.Schedules.{Carries, reconfigurations}
 use Rattle.fair.specs.Fair.{fair_kept}
 use Rattle.least.specs.Least.{Greatest, kept_from}
 use Rattle.planner.specs.declared.answers.Report.{Report}
-use Rattle.planner.specs.declared.answers.Answer.{Answer}
-use Rattle.planner.specs.declared.answers.Answer.TheVariants.{Planned, Refused}
 use Rattle.planner.specs.Lent.{Lent, lent, lent_short}
 use Rattle.planner.specs.Checks.{plan_verdict}
 
--- The number and the place of an answer are those of its verdict.
-abbrev pub verdict_of : Answer → Verdict
-verdict_of (Planned f) = verdict.Accepted
-verdict_of (Refused r) = verdict.Refused r
+-- The report of an accepted call, or its refusal. The number and the place of an answer are those of its verdict.
+abbrev pub Answer : Type 0
+Answer = Result Report Refusal
+
+abbrev pub Planned : Report → Answer
+Planned f = Ok f
+
+abbrev pub Refused : Refusal → Answer
+Refused r = Err r
 
 -- Only plan and frame report the two totals and the reconfigurations; a refusal's are zero.
 abbrev pub report_of : Answer → Report
-report_of (Planned f) = f
-report_of (Refused r) = record { kept = 0; refused = 0; reconfigurations = 0 }
+report_of (Ok f) = f
+report_of (Err r) = record { kept = 0; refused = 0; reconfigurations = 0 }
 
 -- Plan 1 to 6, in document 01's numbers and each with its place: N, L, the rule, the demand, and how many cells each table has that is to be written.
 unfoldable pub plan_notice : (n l rule : ℕ) (d : List ℕ) (kept withdrawn schedule : ℕ) → Notice

@@ -3,15 +3,13 @@ use Rattle.std.specs.Prelude.{ℕ, ◌+◌, ◌*◌, ◌≤◌, ◌<◌, ◌≡�
 use Rattle.sums.specs.Sums.{sum_to}
 use Rattle.sums.specs.Tables.{cell}
 use Rattle.star.specs.declared.refusals.Refusal.{Refusal}
-use Rattle.star.specs.declared.refusals.Verdict.TheVariants as verdict
+use Rattle.star.specs.Refusals as verdict
 use Rattle.star.specs.Tables.{Alike}
 use Rattle.star.specs.Lines.{total, whole_frame, excess, Admissible}
 use Rattle.star.specs.Schedules.{ConflictFree, Respects, refused_by}
-use Rattle.star.specs.Refusals.{Sizes}
+use Rattle.star.specs.Refusals.{verdict_of, Sizes}
 use Rattle.planner.specs.declared.answers.Report.{Report}
-use Rattle.planner.specs.declared.answers.Answer.{Answer}
-use Rattle.planner.specs.declared.answers.Answer.TheVariants.{Refused}
-use Rattle.planner.specs.Plans.{verdict_of, report_of, PlanDone, PlanResult}
+use Rattle.planner.specs.Plans.{Answer, Refused, report_of, PlanDone, PlanResult}
 use Rattle.planner.specs.Lent.{Lent, lent, LentRoom}
 use Rattle.planner.specs.Checks.{plan_verdict}
 

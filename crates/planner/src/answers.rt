@@ -1,44 +1,20 @@
-// What a plan or a frame answers.
+// What a plan or a frame reports where it is accepted.
 ghost use Rattle.std.specs.Prelude.{◌≡◌};
-ghost use Rattle.planner.specs.Plans.{verdict_of, report_of};
+ghost use Rattle.planner.specs.Plans.{report_of};
 
-use star::refusals::{Refusal, Verdict};
+use star::refusals::Refusal;
 
 // The figures of a plan: what all pairs keep, what is refused of the demand, and the reconfigurations.
-#[derive(Clone, Copy)]
+#[derive(Clone, Copy, Debug, Default, PartialEq, Eq)]
 pub struct Report {
     pub kept: u32,
     pub refused: u32,
     pub reconfigurations: u32,
 }
 
-// The report of an accepted call, or its refusal.
-#[derive(Clone, Copy)]
-pub enum Answer {
-    Planned { report: Report },
-    Refused { refusal: Refusal },
-}
-
-// The verdict of an answer, which has its number and its place.
-pub fn verdict(a: Answer) -> Verdict
-    ensures { result ≡ verdict_of a }
-{
-    match a {
-        Answer::Planned { report: _ } => Verdict::Accepted,
-        Answer::Refused { refusal } => Verdict::Refused { refusal },
-    }
-}
-
 // The report of an answer; a refusal's figures are 0.
-pub fn report_of(a: Answer) -> Report
-    ensures { result ≡ report_of a }
+pub fn report_of(answer: Result<Report, Refusal>) -> Report
+    ensures { result ≡ report_of answer }
 {
-    match a {
-        Answer::Planned { report } => report,
-        Answer::Refused { refusal: _ } => Report {
-            kept: 0,
-            refused: 0,
-            reconfigurations: 0,
-        },
-    }
+    answer.unwrap_or_default()
 }

@@ -1,36 +1,34 @@
 // The checks of a plan, in document 01's order.
-ghost use Rattle.std.specs.Prelude.{◌≡◌};
-ghost use Rattle.star.specs.Refusals.{Sizes};
+#![tactic(auto, using(star::proofs::RefusalLaws::sized, star::proofs::RefusalLaws::long_demand), unfolding(star::specs::Checks::refuse, star::specs::Checks::then, crate::specs::Checks::lent_short_verdict, crate::specs::Checks::plan_verdict))]
+
+ghost use Rattle.std.specs.Prelude.{◌≡◌, IfOk};
+ghost use Rattle.star.specs.Refusals.{Sizes, verdict_of};
+ghost use Rattle.star.specs.Rules.{rule_number};
 ghost use Rattle.planner.specs.Checks.{lent_short_verdict, plan_verdict};
 
-use star::checks::{demand_above, demand_short, known_rule, sizes};
-use star::refusals::{Refusal, Verdict};
+use star::checks::{demand_above, demand_short, sizes};
+use star::refusals::Refusal;
+use star::rules::Rule;
 
 // Any of the three tables that a plan writes too short (5), given how many cells each has.
-pub fn lent_short(n: usize, l: usize, kept: usize, withdrawn: usize, schedule: usize) -> Verdict
+pub fn lent_short(
+    n: usize,
+    l: usize,
+    kept: usize,
+    withdrawn: usize,
+    schedule: usize,
+) -> Result<(), Refusal>
     requires { Sizes n l }
     ensures { result ≡ lent_short_verdict n l kept withdrawn schedule }
 {
     let cells = n * n;
-    if kept < cells {
-        return Verdict::Refused {
-            refusal: Refusal::TableShort,
-        };
+    if kept < cells || withdrawn < cells || schedule < l * n {
+        return Err(Refusal::TableShort);
     }
-    if withdrawn < cells {
-        return Verdict::Refused {
-            refusal: Refusal::TableShort,
-        };
-    }
-    if schedule < l * n {
-        return Verdict::Refused {
-            refusal: Refusal::TableShort,
-        };
-    }
-    Verdict::Accepted
+    Ok(())
 }
 
-// Which refusal is given, if any; the last three numbers say how many cells kept, withdrawn and schedule have.
+// The rule, which comes as any number, as C gives it, or which refusal is given; the last three numbers say how many cells kept, withdrawn and schedule have.
 pub fn plan_verdict(
     nodes: u32,
     slots: u32,
@@ -39,25 +37,15 @@ pub fn plan_verdict(
     kept: usize,
     withdrawn: usize,
     schedule: usize,
-) -> Verdict
-    ensures { result ≡ plan_verdict nodes slots rule demand.now kept withdrawn schedule }
+) -> Result<Rule, Refusal>
+    ensures verdict { verdict_of result ≡ plan_verdict nodes slots rule demand.now kept withdrawn schedule }
+    ensures rule { IfOk result (λ r. rule_number r ≡ rule) }
 {
-    let v = sizes(nodes, slots);
-    let Verdict::Accepted = v else {
-        return v;
-    };
-    let v = known_rule(rule);
-    let Verdict::Accepted = v else {
-        return v;
-    };
+    sizes(nodes, slots)?;
+    let known = Rule::try_from(rule)?;
     let n = nodes as usize;
-    let v = demand_short(n, demand.len());
-    let Verdict::Accepted = v else {
-        return v;
-    };
-    let v = lent_short(n, slots as usize, kept, withdrawn, schedule);
-    let Verdict::Accepted = v else {
-        return v;
-    };
-    demand_above(n, demand)
+    demand_short(n, demand.len())?;
+    lent_short(n, slots as usize, kept, withdrawn, schedule)?;
+    demand_above(n, demand)?;
+    Ok(known)
 }

@@ -2,10 +2,10 @@
 use mathlib.Core.Path.{◌≡◌, refl}
 use mathlib.Core.List.{[], ◌∷◌}
 use Rattle.star.specs.declared.refusals.Refusal.TheVariants.{Nodes, TableShort}
-use Rattle.star.specs.declared.refusals.Verdict.TheVariants.{Accepted}
+use Rattle.star.specs.Refusals.{Accepted}
 use Rattle.star.proofs.RefusalLaws.{never}
 use Rattle.planner.specs.declared.answers.Report.{Report}
-use Rattle.planner.specs.declared.answers.Answer.TheVariants.{Planned}
+use Rattle.planner.specs.Plans.{Planned}
 use Rattle.planner.specs.Lent.{Lent}
 use Rattle.run.specs.Histories.{posting, framing, restarting}
 use Rattle.files.specs.Format.{post, frame}

@@ -8,15 +8,15 @@ use native.Mathlib.Omega.{arith}
 use mathlib.Core.Path.{◌≡◌, refl, sym, ◌∙◌, ap, subst}
 use mathlib.Core.Bool.{cond}
 use mathlib.Core.List.{List, [], ◌∷◌, ◌++◌}
-use lib.ListN.{length, take, length-append}
+use lib.ListN.{length, get_or, take, length-append}
+use Rattle.std.specs.Prelude.{Result, Ok, Err}
+use Rattle.std.specs.Result.{IsOk}
 use borrow.Author.Tests.{eq-eqb, ne_eqb}
 use Rattle.sums.specs.Tables.{tab, written}
 use Rattle.sums.proofs.Tables.{mul_small, length_tab, tab_at, written_first}
-use Rattle.star.specs.declared.refusals.Verdict.{Verdict}
-use Rattle.star.specs.declared.refusals.Verdict.TheVariants.{Accepted, Refused}
-use Rattle.star.specs.Refusals.{Ranges}
-use Rattle.planner.specs.declared.answers.Answer.{Answer}
-use Rattle.planner.specs.Plans.{verdict_of}
+use Rattle.star.specs.Refusals.{Verdict, Accepted, verdict_of, Ranges}
+use Rattle.planner.specs.Plans.{Answer}
+use Rattle.star.proofs.RefusalLaws.{never}
 use Rattle.planner.specs.Lent.{Lent, LentRoom}
 use Rattle.calls.specs.declared.record.Run.{Run}
 use Rattle.calls.specs.Held.{Held, held, fresh_run, post_run, frame_run, record_after}
@@ -27,6 +27,9 @@ use Rattle.run.specs.Theorems.{Callable}
 use Rattle.run.proofs.CallLaws.{fresh_theorems, post_theorems}
 use Rattle.run.proofs.FrameLaws.{frame_theorems}
 use Rattle.run.proofs.HistoryLaws.{books_hold, always_callable}
+use Rattle.files.specs.declared.kinds.Kind.{Kind}
+use Rattle.files.specs.declared.kinds.UnknownKind.{UnknownKind}
+use Rattle.files.specs.Kinds.{KindOf}
 use Rattle.files.specs.Format.{two, nodes_of, slots_of, limit_of, rule_of, entries_of, kind_of, place_of, post, frame, entry_of, matrix_at}
 use Rattle.files.specs.Reading.{read_verdict}
 use Rattle.files.proofs.ReadLaws.{Sound, accepted_sound}
@@ -34,8 +37,8 @@ use Rattle.play.specs.Plays.{told, none, more, Played, LargeTables, CanPlay, Pos
 
 -- ---- few events
 whether_few : (v : Verdict) → whether v 1 0 ≤ 1
-whether_few Accepted = omega arith
-whether_few (Refused r) = omega arith
+whether_few (Ok _) = omega arith
+whether_few (Err r) = omega arith
 
 posts_few : (es : List Event) → posts_of es ≤ length (told es)
 unfolding told posts_of
@@ -56,32 +59,58 @@ tab_snoc : {A : Type 0} (m : ℕ) (f : ℕ → A) → tab (m + 1) f ≡ tab m f 
 unfolding tab
 tab_snoc m f = rw add-one refl
 
-pub frame_played : {h : Held} {beside : Run → Held} (lent plan : Lent) (r : Answer) → Framed lent plan h (beside (record_after (verdict_of r) (frame_run h.run) h.run)) r →
-    length lent.kept ≡ 4096 → length lent.withdrawn ≡ 4096 → length lent.schedule ≡ 65536 → FramePlayed h beside
-frame_played lent plan r f lk lw ls = record {
-  lent = lent;
-  plan = plan;
-  r = r;
-  framed = f;
-  long_kept = le_of_eq (sym lk);
-  long_withdrawn = le_of_eq (sym lw);
-  long_schedule = le_of_eq (sym ls);
-}
+-- ---- no call is refused
+-- a post of the cells read from the file, which are at most 65,535
+pub post_goes : (file : List ℕ) (at : ℕ) {h h' : Held} {table : List ℕ} (was : List ℕ) (v : Verdict) → Callable h → h.run.posts < 1000000 →
+    table ≡ written (h.run.nodes * h.run.nodes) (tab (h.run.nodes * h.run.nodes) (λ c. two file (at + 2 * c))) was →
+    ((c : ℕ) → c < h.run.nodes * h.run.nodes → two file (at + 2 * c) ≤ 65535) → Posted (take (h.run.nodes * h.run.nodes) table) h h' v → IsOk v
+post_goes file at {h} {h'} {table} was v callable few is small t =
+    let cells = h.run.nodes * h.run.nodes in
+    let cut : take cells table ≡ tab cells (λ c. two file (at + 2 * c))
+    = ap (take cells) is ∙ written_first cells (tab cells (λ c. two file (at + 2 * c))) was (length_tab (λ c. two file (at + 2 * c)) cells) in
+    let ok = post_theorems.accepts _ h h' v t callable (omega (arith, ap length cut, length_tab (λ c. two file (at + 2 * c)) cells)) (λ p lt. omega (arith, ap (λ a. get_or a p 0) cut, tab_at (λ c. two file (at + 2 * c)) cells p 0 lt, small p lt)) few in
+    rw ok refl
 
+-- tables for 64 nodes and 1,024 slots are long enough for a frame of a callable run
+frame_room : {h : Held} (lent : Lent) → Callable h → 4096 ≤ length lent.kept → 4096 ≤ length lent.withdrawn → 65536 ≤ length lent.schedule → LentRoom h.run.nodes h.run.slots lent
+frame_room {h} lent callable lk lw ls =
+    let sizes = callable.ranges.sizes in
+    let cells = mul_small h.run.nodes h.run.nodes sizes.nodes sizes.nodes in
+    let bytes : h.run.slots * h.run.nodes ≤ 1024 * 64 = mul-le-mul sizes.slots sizes.nodes in
+    record { kept = omega (arith, cells, lk); withdrawn = omega (arith, cells, lw); schedule = omega (arith, bytes, ls) }
+
+pub frame_goes : {h h' : Held} (lent plan : Lent) (r : Answer) → Callable h → h.run.frames < 1000000 → Framed lent plan h h' r → length lent.kept ≡ 4096 → length lent.withdrawn ≡ 4096 → length lent.schedule ≡ 65536 → IsOk r
+frame_goes {h} {h'} lent plan r callable few f lk lw ls =
+    answered r (frame_theorems.accepts lent plan h h' r f callable (frame_room lent callable (le_of_eq (sym lk)) (le_of_eq (sym lw)) (le_of_eq (sym ls))) few)
+  where
+    answered : (r : Answer) → verdict_of r ≡ Accepted → IsOk r
+    answered (Ok f) e = refl
+    answered (Err x) e = absurd (never e)
+
+-- ---- what can be played
 module _ {file : List ℕ} {e : ℕ} {h : Held} (c : CanPlay file e h) where
-  pub can_sound : Sound file
+  can_sound : Sound file
   can_sound = accepted_sound file c.good
 
   books : BooksHold (nodes_of file) (slots_of file) (limit_of file) (rule_of file) c.played.events h
   books = books_hold c.played.history
 
-  callable : Callable h
+  pub callable : Callable h
   callable = always_callable c.played.history
 
-  pub can_nodes : h.run.nodes ≡ nodes_of file
+  can_nodes : h.run.nodes ≡ nodes_of file
   can_nodes = ap (λ r. r.nodes) books.run
 
   module _ (in_table : e < entries_of file) where
+    -- the entry stands in the file's table
+    pub entry_there : 28 + 8 * e ≤ length file
+    entry_there = omega (arith, can_sound.table.all, in_table)
+
+    -- and its kind is known
+    pub kind_known : (kind : Result Kind UnknownKind) → KindOf (kind_of file e) kind → IsOk kind
+    kind_known (Ok k) of = refl
+    kind_known (Err u) of = absurd (omega (arith, of, (can_sound.entries e in_table).known))
+
     few : length (told c.played.events) ≤ 4096
     few = omega (arith, ap length c.played.entries, length_tab (entry_of file) e, can_sound.table.few)
 
@@ -114,7 +143,7 @@ module _ {file : List ℕ} {e : ℕ} {h : Held} (c : CanPlay file e h) where
     }
 
     module _ {beside : Run → Held} where
-      pub played_post : {new : Run} → PostPlayed file (place_of file e) h beside → kind_of file e ≡ 0 → new ≡ post_run h.run → Played file (e + 1) (beside new)
+      played_post : {new : Run} → PostPlayed file (place_of file e) h beside → kind_of file e ≡ 0 → new ≡ post_run h.run → Played file (e + 1) (beside new)
       unfolding told matrix_at
       played_post q z is =
           let arrivals = matrix_at h.run.nodes file (place_of file e) in
@@ -127,11 +156,7 @@ module _ {file : List ℕ} {e : ℕ} {h : Held} (c : CanPlay file e h) where
       pub played_frame : {new : Run} → FramePlayed h beside → (kind_of file e ≡ 0 → ⊥) → new ≡ frame_run h.run → Played file (e + 1) (beside new)
       unfolding told
       played_frame q z is =
-          let sizes = callable.ranges.sizes in
-          let cells = mul_small h.run.nodes h.run.nodes sizes.nodes sizes.nodes in
-          let bytes : h.run.slots * h.run.nodes ≤ 1024 * 64 = mul-le-mul sizes.slots sizes.nodes in
-          let room : LentRoom h.run.nodes h.run.slots q.lent = record { kept = omega (arith, cells, q.long_kept); withdrawn = omega (arith, cells, q.long_withdrawn); schedule = omega (arith, bytes, q.long_schedule) } in
-          let ok = frame_theorems.accepts q.lent q.plan h _ q.r q.framed callable room few_frames in
+          let ok = frame_theorems.accepts q.lent q.plan h _ q.r q.framed callable (frame_room q.lent callable q.long_kept q.long_withdrawn q.long_schedule) few_frames in
           lengthened (framing q.lent q.plan q.r) ok
           (subst (λ r. Framed q.lent q.plan h (beside r) q.r) (accepted_record (frame_run h.run) h.run ok ∙ sym is) q.framed)
           (ap (λ x. told c.played.events ++ (x ∷ [])) (frame_entry z))
@@ -157,23 +182,27 @@ pub played_post_at : {file : List ℕ} {e at : ℕ} {h : Held} {new : Run} {besi
 played_post_at {file} {h = h} {beside = beside} c in_table z there q is = played_post c in_table (subst (λ x. PostPlayed file x h beside) there q) z is
 
 -- ---- the start
-module _ (file : List ℕ) {n l limit rule : ℕ} {h : Held} {start : Run} {waiting posted sent dropped : List ℕ} {v : Verdict} (good : read_verdict file ≡ Accepted) (hn : n ≡ nodes_of file) (hl : l ≡ slots_of file) (hb : limit ≡ limit_of file) (hr : rule ≡ rule_of file)
-    (rooms : LargeTables h.waiting h.posted h.sent h.dropped) (f : Freshened n l limit rule h (held (record_after v (fresh_run n l limit rule) h.run) waiting posted sent dropped) v) (is : start ≡ fresh_run n l limit rule) where
+module _ (file : List ℕ) {h : Held} {waiting posted sent dropped : List ℕ} {v : Verdict} (good : read_verdict file ≡ Accepted) (rooms : LargeTables h.waiting h.posted h.sent h.dropped)
+    (f : Freshened (nodes_of file) (slots_of file) (limit_of file) (rule_of file) h (held (record_after v (fresh_run (nodes_of file) (slots_of file) (limit_of file) (rule_of file)) h.run) waiting posted sent dropped) v) where
+  -- it is accepted
   fresh_accepted : v ≡ Accepted
   fresh_accepted =
-      let ranges : Ranges n l rule limit = rw (hn, hl, hb, hr) (accepted_sound file good).ranges in
-      let cells = mul_small n n ranges.sizes.nodes ranges.sizes.nodes in
-      fresh_theorems.accepts n l limit rule h _ v f ranges (record { waiting = omega (arith, cells, rooms.queues); posted = omega (arith, cells, rooms.postings); sent = omega (arith, cells, rooms.sendings); dropped = omega (arith, cells, rooms.drops) })
+      let ranges : Ranges (nodes_of file) (slots_of file) (rule_of file) (limit_of file) = (accepted_sound file good).ranges in
+      let cells = mul_small (nodes_of file) (nodes_of file) ranges.sizes.nodes ranges.sizes.nodes in
+      fresh_theorems.accepts _ _ _ _ h _ v f ranges (record { waiting = omega (arith, cells, rooms.queues); posted = omega (arith, cells, rooms.postings); sent = omega (arith, cells, rooms.sendings); dropped = omega (arith, cells, rooms.drops) })
 
-  first_call : Freshened (nodes_of file) (slots_of file) (limit_of file) (rule_of file) h (held start waiting posted sent dropped) Accepted
-  first_call =
-      rw (hn, hl, hb, hr) at
-      (subst (Freshened n l limit rule h (held start waiting posted sent dropped)) fresh_accepted
-      (subst (λ r. Freshened n l limit rule h (held r waiting posted sent dropped) v) (accepted_record (fresh_run n l limit rule) h.run fresh_accepted ∙ sym is) f))
+  pub fresh_starts : IsOk v
+  fresh_starts = rw fresh_accepted refl
 
-  pub can_start : CanPlay file 0 (held start waiting posted sent dropped)
+  first_call : {start : Run} → start ≡ fresh_run (nodes_of file) (slots_of file) (limit_of file) (rule_of file) → Freshened (nodes_of file) (slots_of file) (limit_of file) (rule_of file) h (held start waiting posted sent dropped) Accepted
+  first_call {start} is =
+      subst (Freshened (nodes_of file) (slots_of file) (limit_of file) (rule_of file) h (held start waiting posted sent dropped)) fresh_accepted
+      (subst (λ r. Freshened (nodes_of file) (slots_of file) (limit_of file) (rule_of file) h (held r waiting posted sent dropped) v) (accepted_record _ h.run fresh_accepted ∙ sym is) f)
+
+  -- and a history begins
+  pub can_start : {start : Run} → start ≡ fresh_run (nodes_of file) (slots_of file) (limit_of file) (rule_of file) → CanPlay file 0 (held start waiting posted sent dropped)
   unfolding told tab
-  can_start = record {
+  can_start {start} is = record {
     good = good;
-    played = record { events = []; history = started h (held start waiting posted sent dropped) first_call; entries = refl; accepted = none };
+    played = record { events = []; history = started h (held start waiting posted sent dropped) (first_call is); entries = refl; accepted = none };
   }

@@ -9,11 +9,9 @@ use lib.ListN.{length, get_or, take, length-append}
 use lib.Seq.{take_at, get_or_at}
 use Rattle.sums.specs.Tables.{cell}
 use Rattle.sums.proofs.Tables.{place_split, at_place}
-use Rattle.star.specs.declared.refusals.Verdict.{Verdict}
-use Rattle.star.specs.declared.refusals.Verdict.TheVariants.{Accepted}
+use Rattle.star.specs.Refusals.{Verdict, Accepted, verdict_of}
 use Rattle.star.proofs.RefusalLaws.{never}
-use Rattle.planner.specs.declared.answers.Answer.{Answer}
-use Rattle.planner.specs.Plans.{verdict_of}
+use Rattle.planner.specs.Plans.{Answer}
 use Rattle.planner.specs.Lent.{Lent, LentRoom}
 use Rattle.calls.specs.Held.{Held, HeldAlike}
 use Rattle.calls.specs.Runs.{Freshened, Posted, Framed}

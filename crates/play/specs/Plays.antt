@@ -1,11 +1,9 @@
 -- Playing a file: a history of a run whose events are the file's entries, in their order, each accepted.
 use Rattle.std.specs.Prelude.{ℕ, ◌≤◌, ◌≡◌, List, [], ◌∷◌, ◌++◌, length}
 use Rattle.sums.specs.Tables.{tab}
-use Rattle.star.specs.declared.refusals.Verdict.{Verdict}
-use Rattle.star.specs.declared.refusals.Verdict.TheVariants.{Accepted}
+use Rattle.star.specs.Refusals.{Verdict, Accepted, verdict_of}
 use Rattle.star.specs.Tables.{Demands}
-use Rattle.planner.specs.declared.answers.Answer.{Answer}
-use Rattle.planner.specs.Plans.{verdict_of}
+use Rattle.planner.specs.Plans.{Answer}
 use Rattle.planner.specs.Lent.{Lent}
 use Rattle.calls.specs.declared.record.Run.{Run}
 use Rattle.calls.specs.Held.{Held, post_run, frame_run, record_after}

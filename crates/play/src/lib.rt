@@ -1,10 +1,11 @@
-// Playing a scenario file: a fresh start, and then each entry in turn. No call of an accepted file is refused, so that there is no path for it.
+// Playing a scenario file: a fresh start, and then each entry in turn. No call of an accepted file is refused, so that each answer is unwrapped.
 #![tactic(auto)]
 
 ghost use Rattle.std.specs.Prelude.{◌≡◌, ℕ, ◌+◌, ◌*◌, ◌≤◌, ◌<◌, length};
 ghost use Rattle.sums.specs.Tables.{tab, written};
-ghost use Rattle.star.specs.declared.refusals.Verdict.TheVariants.{Accepted};
-ghost use Rattle.calls.specs.Held.{held, post_run, frame_run};
+ghost use Rattle.star.specs.Refusals.{Accepted};
+ghost use Rattle.calls.specs.Held.{held};
+ghost use Rattle.run.specs.Theorems.{Callable};
 ghost use Rattle.files.specs.Format.{two, entries_of};
 ghost use Rattle.files.specs.Reading.{read_verdict};
 ghost use Rattle.play.specs.Plays.{Played, LargeTables, CanPlay, PostPlayed, FramePlayed};
@@ -13,17 +14,17 @@ use calls::frame::{frame_on, frames_after};
 use calls::fresh::{fresh_on, started};
 use calls::post::{post_on, posts_after};
 use calls::record::Run;
-use files::numbers::{four, two};
+use files::kinds::Kind;
+use files::numbers::two;
+use files::reading::{Head, kind_at, place_at};
 
 // The cells of the matrix at a place go to the front of a table.
 fn read_cells(file: &[u8], at: usize, table: &mut [u32], cells: usize)
     requires { (cells ≤ length table.old) × (cells ≤ 4096) × (at + 2 * cells ≤ length file.now) }
     ensures { (table.new ≡ written cells (tab cells (λ c. two file.now (at + 2 * c))) table.old) × ((c : ℕ) → c < cells → two file.now (at + 2 * c) ≤ 65535) }
 {
-    let mut c = 0;
-    while c < cells {
+    for c in 0..cells {
         table[c] = two(file, at + 2 * c);
-        c += 1;
     }
 }
 
@@ -37,18 +38,22 @@ fn play_post(
     sent: &[u64],
     dropped: &mut [u64],
 )
-    requires { (old.nodes ≤ 64) × (at + 2 * (old.nodes * old.nodes) ≤ length file.now) }
+    requires callable { Callable (held old waiting.old posted.old sent.now dropped.old) }
+    requires few { old.posts < 1000000 }
+    requires within { at + 2 * (old.nodes * old.nodes) ≤ length file.now }
     ensures { PostPlayed file.now at (held old waiting.old posted.old sent.now dropped.old) (λ run. held run waiting.new posted.new sent.now dropped.new) }
 {
     let n = old.nodes as usize;
     let cells = n * n;
     let mut arrivals = [0u32; 4096];
     read_cells(file, at, &mut arrivals, cells);
-    post_on(old, &arrivals[..cells], waiting, posted, sent, dropped);
+    post_on(old, &arrivals[..cells], waiting, posted, sent, dropped).unwrap();
 }
 
 // Sends a frame.
 fn play_frame(old: Run, waiting: &mut [u32], posted: &[u64], sent: &mut [u64], dropped: &[u64])
+    requires callable { Callable (held old waiting.old posted.now sent.old dropped.now) }
+    requires few { old.frames < 1000000 }
     ensures { FramePlayed (held old waiting.old posted.now sent.old dropped.now) (λ run. held run waiting.new posted.now sent.new dropped.now) }
 {
     let mut kept = [0u32; 4096];
@@ -63,37 +68,8 @@ fn play_frame(old: Run, waiting: &mut [u32], posted: &[u64], sent: &mut [u64], d
         &mut kept,
         &mut withdrawn,
         &mut schedule,
-    );
-}
-
-// The record after an accepted post.
-fn posted_record(old: Run) -> Run
-    requires { old.posts < 1000000 }
-    ensures { result ≡ post_run old }
-{
-    Run {
-        nodes: old.nodes,
-        slots: old.slots,
-        limit: old.limit,
-        rule: old.rule,
-        posts: posts_after(old),
-        frames: old.frames,
-    }
-}
-
-// The record after an accepted frame.
-fn framed_record(old: Run) -> Run
-    requires { old.frames < 1000000 }
-    ensures { result ≡ frame_run old }
-{
-    Run {
-        nodes: old.nodes,
-        slots: old.slots,
-        limit: old.limit,
-        rule: old.rule,
-        posts: old.posts,
-        frames: frames_after(old),
-    }
+    )
+    .unwrap();
 }
 
 // Plays entry e, and gives the record then.
@@ -110,39 +86,34 @@ fn play_entry(
     requires entry { e < entries_of file.now }
     ensures { Played file.now (e + 1) (held result waiting.new posted.new sent.new dropped.new) }
 {
-    if four(file, 20 + 8 * e) == 0 {
-        let at = four(file, 24 + 8 * e) as usize;
-        play_post(file, at, old, waiting, posted, sent, dropped);
-        return posted_record(old);
+    match kind_at(file, e).unwrap() {
+        Kind::Post => {
+            play_post(
+                file,
+                place_at(file, e) as usize,
+                old,
+                waiting,
+                posted,
+                sent,
+                dropped,
+            );
+            Run {
+                posts: posts_after(old),
+                ..old
+            }
+        }
+        Kind::Frame => {
+            play_frame(old, waiting, posted, sent, dropped);
+            Run {
+                frames: frames_after(old),
+                ..old
+            }
+        }
     }
-    play_frame(old, waiting, posted, sent, dropped);
-    framed_record(old)
 }
 
-// Plays every entry after a fresh start, and gives the record then.
-fn play_entries(
-    file: &[u8],
-    entries: usize,
-    start: Run,
-    waiting: &mut [u32],
-    posted: &mut [u64],
-    sent: &mut [u64],
-    dropped: &mut [u64],
-) -> Run
-    requires can_play { CanPlay file.now 0 (held start waiting.old posted.old sent.old dropped.old) }
-    requires all_entries { entries ≡ entries_of file.now }
-    ensures { Played file.now (entries_of file.now) (held result waiting.new posted.new sent.new dropped.new) }
-{
-    let mut run = start;
-    let mut e = 0;
-    while e < entries {
-        run = play_entry(file, e, run, waiting, posted, sent, dropped);
-        e += 1;
-    }
-    run
-}
-
-// Plays an accepted file on these tables, and gives the record of the run.
+// Plays an accepted file on these tables: a fresh start, and then every entry. Gives the record of the run. The tables are four parameters: a struct of
+// arrays was tried, and would ask more of a caller, of a function that docs/changes/101.md names.
 pub fn play(
     file: &[u8],
     waiting: &mut [u32],
@@ -154,14 +125,14 @@ pub fn play(
     requires large_tables { LargeTables waiting.old posted.old sent.old dropped.old }
     ensures { Played file.now (entries_of file.now) (held result waiting.new posted.new sent.new dropped.new) }
 {
-    let nodes = four(file, 0);
-    let slots = four(file, 4);
-    let limit = four(file, 8);
-    let rule = four(file, 12);
-    let entries = four(file, 16) as usize;
-    let start = started(nodes, slots, limit, rule);
+    let head = Head::of(file);
+    let mut run = started(head.nodes, head.slots, head.limit, head.rule);
     fresh_on(
-        start, nodes, slots, limit, rule, waiting, posted, sent, dropped,
-    );
-    play_entries(file, entries, start, waiting, posted, sent, dropped)
+        run, head.nodes, head.slots, head.limit, head.rule, waiting, posted, sent, dropped,
+    )
+    .unwrap();
+    for e in 0..head.entries as usize {
+        run = play_entry(file, e, run, waiting, posted, sent, dropped);
+    }
+    run
 }

@@ -1,11 +1,11 @@
 -- The theorems on fresh and post. The verdict is a function of what was given, and what is held then is one of the verdict and of what was held; each
 -- reads only the cells needed. Assumes nothing.
+use Rattle.std.specs.Prelude.{Ok, Err}
 use Prim.Native.Nat.{ℕ, ◌*◌}
 use native.Mathlib.Omega.{arith}
 use mathlib.Core.Path.{◌≡◌, refl, sym, ◌∙◌, ap, subst}
 use mathlib.Core.List.{List}
-use Rattle.star.specs.declared.refusals.Verdict.{Verdict}
-use Rattle.star.specs.declared.refusals.Verdict.TheVariants.{Accepted, Refused}
+use Rattle.star.specs.Refusals.{Verdict, Accepted}
 use Rattle.star.specs.Tables.{Alike}
 use Rattle.star.proofs.RefusalLaws.{promise_same}
 use Rattle.books.proofs.QueueLaws.{zeroed_length, increased_length, overflowed_length, queued_length, zeroed_alike, increased_alike, queued_alike, overflowed_alike}
@@ -35,8 +35,8 @@ still_long room same = record {
 -- ---- fresh
 module _ {n l limit rule : ℕ} {h h' : Held} where
   pub fresh_lengths : (v : Verdict) → Freshened n l limit rule h h' v → SameLengths h h'
-  fresh_lengths (Refused x) c = lengths_same (c.refused x refl)
-  fresh_lengths Accepted c =
+  fresh_lengths (Err x) c = lengths_same (c.refused x refl)
+  fresh_lengths (Ok _) c =
       let room = (fresh_accepted n l limit rule h (sym c.answer)).1 in
       subst (λ x. SameLengths h x) (sym (c.accepted refl)) (record {
         waiting = zeroed_length n h.waiting room.waiting;
@@ -71,8 +71,8 @@ fresh_theorems = record {
 
 -- ---- post
 pub post_lengths : (arrivals : List ℕ) {h h' : Held} (v : Verdict) → Posted arrivals h h' v → SameLengths h h'
-post_lengths arrivals (Refused x) c = lengths_same (c.refused x refl)
-post_lengths arrivals {h} Accepted c =
+post_lengths arrivals (Err x) c = lengths_same (c.refused x refl)
+post_lengths arrivals {h} (Ok _) c =
     let room = (post_accepted arrivals h (sym c.answer)).long_enough in
     let n = h.run.nodes in
     subst (λ x. SameLengths h x) (sym (c.accepted refl)) (record {
@@ -84,8 +84,8 @@ post_lengths arrivals {h} Accepted c =
 
 module _ (a b : List ℕ) (h h' g g' : Held) (given : Alike (h.run.nodes * h.run.nodes) a b) (same : HeldAlike h.run.nodes h g) where
   post_alike : (v : Verdict) → Posted a h h' v → Posted b g g' v → HeldAlike h.run.nodes h' g'
-  post_alike (Refused x) c d = alike_same (c.refused x refl) (d.refused x refl) same
-  post_alike Accepted c d =
+  post_alike (Err x) c d = alike_same (c.refused x refl) (d.refused x refl) same
+  post_alike (Ok _) c d =
       let n = h.run.nodes in
       alike_same (c.accepted refl) (d.accepted refl) (record {
         run = ap post_run same.run;

@@ -1,16 +1,15 @@
 -- The theorems on frames. An accepted frame has passed all checks of a plan, since no queue is longer than B; two such frames then agree as plans
 -- do, and what is held follows from kept. Assumes nothing.
+use Rattle.std.specs.Prelude.{Ok, Err}
 use Prim.Native.Nat.{◌*◌}
 use native.Mathlib.Omega.{arith}
 use mathlib.Core.Path.{◌≡◌, refl, sym, ◌∙◌, ap, subst}
 use lib.ListN.{length, take}
 use Rattle.star.specs.declared.refusals.Refusal.{Refusal}
-use Rattle.star.specs.declared.refusals.Verdict.TheVariants.{Accepted}
+use Rattle.star.specs.Refusals.{Accepted, verdict_of}
 use Rattle.star.specs.Tables.{Alike}
 use Rattle.star.proofs.RefusalLaws.{never, promise_done}
-use Rattle.planner.specs.declared.answers.Answer.{Answer}
-use Rattle.planner.specs.declared.answers.Answer.TheVariants as answer
-use Rattle.planner.specs.Plans.{verdict_of, PlanResult}
+use Rattle.planner.specs.Plans.{Answer, PlanResult}
 use Rattle.planner.specs.Theorems.{SameAsNeeded}
 use Rattle.planner.specs.Lent.{Lent, LentRoom}
 use Rattle.planner.proofs.PlanLaws.{plan_notice_lem, plan_accepts}
@@ -24,7 +23,7 @@ use Rattle.run.specs.Theorems.{SameLengths, SameFrames, SameFramesAsNeeded, Fram
 use Rattle.run.proofs.CallLaws.{lengths_same, alike_same, callable_balanced}
 
 -- what a refused frame leaves: what is held, and what is lent
-frame_unchanged : {k k' : Lent} {h h' : Held} {x : Refusal} → Framed k k' h h' (answer.Refused x) → (h' ≡ h) × (k' ≡ k)
+frame_unchanged : {k k' : Lent} {h h' : Held} {x : Refusal} → Framed k k' h h' (Err x) → (h' ≡ h) × (k' ≡ k)
 frame_unchanged {x = x} c = let e = c.refused x refl in (ap (λ p. p.0) e, ap (λ p. p.1) e)
 
 pub frame_planned : (k k' : Lent) (h h' : Held) (r : Answer) → Framed k k' h h' r → verdict_of r ≡ Accepted → PlanResult h.run.nodes h.run.slots h.run.rule h.waiting k k' r
@@ -35,10 +34,10 @@ frame_planned k k' h h' r c ok =
 
 -- ---- two frames
 frame_unique : (k k₁ k₂ : Lent) (h h₁ h₂ : Held) (r₁ r₂ : Answer) → Framed k k₁ h h₁ r₁ → Framed k k₂ h h₂ r₂ → SameFrames h.run.rule k₁ k₂ h₁ h₂ r₁ r₂
-frame_unique k k₁ k₂ h h₁ h₂ (answer.Planned f) r₂ c d =
+frame_unique k k₁ k₂ h h₁ h₂ (Ok f) r₂ c d =
     let e : verdict_of r₂ ≡ Accepted = d.answer ∙ sym c.answer in
     let plans =
-    plan_theorems.unique h.run.nodes h.run.slots h.run.rule h.waiting k k₁ k₂ (answer.Planned f) r₂ (frame_planned k k₁ h h₁ (answer.Planned f) c refl) (frame_planned k k₂ h h₂ r₂ d e) in
+    plan_theorems.unique h.run.nodes h.run.slots h.run.rule h.waiting k k₁ k₂ (Ok f) r₂ (frame_planned k k₁ h h₁ (Ok f) c refl) (frame_planned k k₂ h h₂ r₂ d e) in
     let then-held : k₁.kept ≡ k₂.kept → h₁ ≡ h₂ = λ kept. (c.accepted refl).after ∙ ap (λ x. after_frame x h) kept ∙ sym (d.accepted e).after in
     record {
       plans = plans;
@@ -47,8 +46,8 @@ frame_unique k k₁ k₂ h h₁ h₂ (answer.Planned f) r₂ c d =
       fair_held = λ ok z. then-held (plans.fair_cells ok z).0;
       least_held = λ ok u same. then-held (plans.least_cells ok u same);
     }
-frame_unique k k₁ k₂ h h₁ h₂ (answer.Refused x) (answer.Planned f) c d = absurd (never (c.answer ∙ sym d.answer))
-frame_unique k k₁ k₂ h h₁ h₂ (answer.Refused x) (answer.Refused y) c d =
+frame_unique k k₁ k₂ h h₁ h₂ (Err x) (Ok f) c d = absurd (never (c.answer ∙ sym d.answer))
+frame_unique k k₁ k₂ h h₁ h₂ (Err x) (Err y) c d =
     let one = frame_unchanged c in
     let other = frame_unchanged d in
     record {
@@ -68,10 +67,10 @@ frame_unique k k₁ k₂ h h₁ h₂ (answer.Refused x) (answer.Refused y) c d =
 
 pub frame_lengths : (k k' : Lent) (h h' : Held) (r : Answer) → Framed k k' h h' r →
     SameLengths h h' × (length k'.kept ≡ length k.kept) × (length k'.withdrawn ≡ length k.withdrawn) × (length k'.schedule ≡ length k.schedule)
-frame_lengths k k' h h' (answer.Refused x) c =
+frame_lengths k k' h h' (Err x) c =
     let same = frame_unchanged c in
     (lengths_same same.0, ap (λ y. length y.kept) same.1, ap (λ y. length y.withdrawn) same.1, ap (λ y. length y.schedule) same.1)
-frame_lengths k k' h h' (answer.Planned f) c =
+frame_lengths k k' h h' (Ok f) c =
     let room = (frame_accepted h k (sym c.answer)).long_enough in
     let done = c.accepted refl in (
       subst (λ x. SameLengths h x) (sym done.after) (record {
@@ -115,17 +114,17 @@ module _ (k k₁ x k₂ : Lent) (h h₁ g h₂ : Held) (same : HeldAlike h.run.n
         other
 
   frame_needed : (r₁ r₂ : Answer) → verdict_of r₁ ≡ verdict_of r₂ → Framed k k₁ h h₁ r₁ → Framed x k₂ g h₂ r₂ → SameFramesAsNeeded h.run.nodes h.run.rule k₁ k₂ h₁ h₂ r₁ r₂
-  frame_needed (answer.Planned f) r₂ verdicts c d =
-      let plans = plans_needed (answer.Planned f) r₂ c d refl (sym verdicts) in
-      let held = held_then (answer.Planned f) r₂ c d refl (sym verdicts) in
+  frame_needed (Ok f) r₂ verdicts c d =
+      let plans = plans_needed (Ok f) r₂ c d refl (sym verdicts) in
+      let held = held_then (Ok f) r₂ c d refl (sym verdicts) in
       record {
         plans = plans;
         refused_held = λ y q. absurd (never (sym q));
         fair_held = λ ok z. held ((plans.plans ok).fair_cells z).0;
         least_held = λ ok u withdrawn. held ((plans.plans ok).least_cells u withdrawn);
       }
-  frame_needed (answer.Refused y) (answer.Planned f) verdicts c d = absurd (never verdicts)
-  frame_needed (answer.Refused y) (answer.Refused z) verdicts c d = record {
+  frame_needed (Err y) (Ok f) verdicts c d = absurd (never verdicts)
+  frame_needed (Err y) (Err z) verdicts c d = record {
     plans = record { verdicts = verdicts; kept_totals = refl; refused_totals = refl; plans = λ ok. absurd (never ok) };
     refused_held = λ u q. alike_same (frame_unchanged c).0 (frame_unchanged d).0 same;
     fair_held = λ ok e. absurd (never ok);

@@ -1,5 +1,6 @@
 -- The theorem on a run's books, from what holds at every moment of its history: the books agree, so that refusal 8 cannot come; and what an accepted
 -- frame plans from is the queue, so that the least rule's plan sends the most. And a call finds what it asks. Assumes nothing.
+use Rattle.std.specs.Prelude.{Ok, Err}
 use Prim.Native.Nat.{ℕ, ◌*◌, ◌/◌, ◌%◌, ◌≤◌, ◌<◌}
 use native.Mathlib.Nat.{le_of_eq}
 use native.Mathlib.Omega.{arith}
@@ -11,14 +12,10 @@ use borrow.Author.Tests.{le-ltb}
 use Rattle.sums.specs.Tables.{cell}
 use Rattle.sums.proofs.Tables.{place_split, at_place}
 use Rattle.star.specs.declared.refusals.Refusal.TheVariants.{BooksDisagree}
-use Rattle.star.specs.declared.refusals.Verdict.{Verdict}
-use Rattle.star.specs.declared.refusals.Verdict.TheVariants.{Accepted, Refused}
-use Rattle.star.specs.Refusals.{Notice, notice_of, check, some_cell}
+use Rattle.star.specs.Refusals.{Verdict, Accepted, Refused, Notice, notice_of, check, some_cell, verdict_of}
 use Rattle.star.proofs.RefusalLaws.{never}
 use Rattle.least.proofs.Counts.{counts_admissible}
-use Rattle.planner.specs.declared.answers.Answer.{Answer}
-use Rattle.planner.specs.declared.answers.Answer.TheVariants as answer
-use Rattle.planner.specs.Plans.{verdict_of}
+use Rattle.planner.specs.Plans.{Answer}
 use Rattle.planner.specs.Lent.{Lent}
 use Rattle.books.proofs.Agreements.{Agree}
 use Rattle.calls.specs.Held.{Held, LongEnough, disagreeing}
@@ -124,7 +121,7 @@ now_run {h = h} now = rw (← now.nodes, ← now.slots, ← now.limits, ← now.
 module _ {n l limit rule : ℕ} where
   sends_most : {es : List Event} (lent plan : Lent) (r : Answer) {h h' : Held} → Now n l limit rule es h → Framed lent plan h h' r → verdict_of r ≡ Accepted → rule ≡ 1 →
       SendsMost n l (queue n l limit es) plan.schedule
-  sends_most {es = es} lent plan (answer.Planned f) {h = h} now c e least = record {
+  sends_most {es = es} lent plan (Ok f) {h = h} now c e least = record {
     whole =
         let room : l * n ≤ length lent.schedule = rw (now.nodes, now.slots) at (frame_accepted h lent (sym c.answer)).tables.schedule in
         omega (arith, room, (planned now c).wrote.schedule_length);
@@ -136,7 +133,7 @@ module _ {n l limit rule : ℕ} where
           plan_most (rw least at (planned now c).wrote.plan) other (counts_admissible free),
         );
   }
-  sends_most lent plan (answer.Refused r) now c e least = absurd (never e)
+  sends_most lent plan (Err r) now c e least = absurd (never e)
 
   pub books_hold : {es : List Event} {h : Held} → History n l limit rule es h → BooksHold n l limit rule es h
   books_hold {es} {h} past = let now = always past in record {

@@ -2,6 +2,7 @@
 -- queue is at most B, and arrived = queue + carried + exceeded: an accepted post adds an arrival on the left, and on the right what of it finds room
 -- and what does not; an accepted frame moves what its schedule gives, which is what it keeps and no more than waits, from the queue to carried; a
 -- refusal changes nothing. Assumes nothing.
+use Rattle.std.specs.Prelude.{Ok, Err}
 use Prim.Native.Nat.{ℕ, ◌+◌, ◌-◌, ◌*◌, ◌≤◌, ◌<◌, min}
 use native.Mathlib.Omega.{arith}
 use mathlib.Core.Path.{◌≡◌, refl, sym, ◌∙◌, ap, subst}
@@ -9,12 +10,10 @@ use mathlib.Core.List.{List, [], ◌∷◌}
 use Rattle.sums.specs.Tables.{cell}
 use Rattle.sums.proofs.Tables.{cell_lt}
 use Rattle.star.specs.declared.refusals.Refusal.{Refusal}
-use Rattle.star.specs.declared.refusals.Verdict.TheVariants.{Accepted, Refused}
+use Rattle.star.specs.Refusals.{Accepted, Refused, Ranges}
 use Rattle.star.specs.Lines.{whole_frame}
 use Rattle.star.specs.Schedules.{count}
-use Rattle.star.specs.Refusals.{Ranges}
 use Rattle.planner.specs.declared.answers.Report.{Report}
-use Rattle.planner.specs.declared.answers.Answer.TheVariants as answer
 use Rattle.planner.specs.Plans.{PlanDone}
 use Rattle.planner.specs.Lent.{Lent}
 use Rattle.planner.proofs.PlanLaws.{plan_below}
@@ -90,7 +89,7 @@ module _ (n l limit : ℕ) (es : List Event) where
     same_frames = refl;
   }
 
-  frame_unmoved : (lent plan : Lent) (x : Refusal) → Unmoved n l limit (framing lent plan (answer.Refused x)) es
+  frame_unmoved : (lent plan : Lent) (x : Refusal) → Unmoved n l limit (framing lent plan (Err x)) es
   unfolding arrived carried queue exceeded posts_of frames_of
   frame_unmoved lent plan x = record {
     same_arrived = λ i j. refl;
@@ -178,7 +177,7 @@ now_posted arrivals now c = let done = c.accepted refl in record {
 }
 
 -- ---- a frame
-module _ {n l limit rule : ℕ} {es : List Event} {lent plan : Lent} {f : Report} {h h' : Held} (now : Now n l limit rule es h) (c : Framed lent plan h h' (answer.Planned f)) where
+module _ {n l limit rule : ℕ} {es : List Event} {lent plan : Lent} {f : Report} {h h' : Held} (now : Now n l limit rule es h) (c : Framed lent plan h h' (Ok f)) where
   pub planned : PlanDone n l rule (whole_frame n l) h.waiting lent plan f
   planned = rw (now.nodes, now.slots, now.rules) at (c.accepted refl).plan
 
@@ -206,12 +205,12 @@ module _ {n l limit rule : ℕ} {es : List Event} {lent plan : Lent} {f : Report
     pub sent_waited : count n l plan.schedule i j ≤ cell n h.waiting i j
     sent_waited = omega (arith, planned.wrote.plan.carried.exact i j hi hj, plan_below now.ranges.known_rule planned.wrote.plan i j hi hj)
 
-now_framed : {n l limit rule : ℕ} {es : List Event} {lent plan : Lent} {f : Report} {h h' : Held} → Now n l limit rule es h → Framed lent plan h h' (answer.Planned f) →
-    Now n l limit rule (framing lent plan (answer.Planned f) ∷ es) h'
+now_framed : {n l limit rule : ℕ} {es : List Event} {lent plan : Lent} {f : Report} {h h' : Held} → Now n l limit rule es h → Framed lent plan h h' (Ok f) →
+    Now n l limit rule (framing lent plan (Ok f) ∷ es) h'
 unfolding arrived carried queue exceeded posts_of frames_of
 now_framed {lent = lent} {plan = plan} {f = f} {h = h} {h' = h'} now c = let done = (c.accepted refl).after in record {
   ranges = now.ranges;
-  long_enough = still_long now.long_enough (frame_lengths lent plan h h' (answer.Planned f) c).0;
+  long_enough = still_long now.long_enough (frame_lengths lent plan h h' (Ok f) c).0;
   nodes = ap (λ x. x.run.nodes) done ∙ now.nodes;
   slots = ap (λ x. x.run.slots) done ∙ now.slots;
   limits = ap (λ x. x.run.limit) done ∙ now.limits;
@@ -230,10 +229,10 @@ now_framed {lent = lent} {plan = plan} {f = f} {h = h} {h' = h'} now c = let don
 -- ---- every moment
 module _ {n l limit rule : ℕ} where
   now_after : (e : Event) {es : List Event} {h h' : Held} → Now n l limit rule es h → Happens e h h' → Now n l limit rule (e ∷ es) h'
-  now_after (posting arrivals Accepted) now c = now_posted arrivals now c
-  now_after (posting arrivals (Refused r)) {es} now c = now_unmoved (post_unmoved n l limit es arrivals r) (c.refused r refl) now
-  now_after (framing lent plan (answer.Planned f)) now c = now_framed now c
-  now_after (framing lent plan (answer.Refused r)) {es} now c = now_unmoved (frame_unmoved n l limit es lent plan r) (ap (λ x. x.0) (c.refused r refl)) now
+  now_after (posting arrivals (Ok _)) now c = now_posted arrivals now c
+  now_after (posting arrivals (Err r)) {es} now c = now_unmoved (post_unmoved n l limit es arrivals r) (c.refused r refl) now
+  now_after (framing lent plan (Ok f)) now c = now_framed now c
+  now_after (framing lent plan (Err r)) {es} now c = now_unmoved (frame_unmoved n l limit es lent plan r) (ap (λ x. x.0) (c.refused r refl)) now
   now_after (restarting n' l' limit' rule' x) {es} now c = now_unmoved (start_unmoved n l limit es n' l' limit' rule' x) (c.refused x refl) now
 
   pub always : {es : List Event} {h : Held} → History n l limit rule es h → Now n l limit rule es h

@@ -1,14 +1,12 @@
 -- The history of a run, and what its books say at every moment of it.
-use Rattle.std.specs.Prelude.{ℕ, ◌+◌, ◌-◌, ◌*◌, ◌≤◌, ◌<◌, min, ◌≡◌, List, [], ◌∷◌, ◌++◌, length}
+use Rattle.std.specs.Prelude.{ℕ, ◌+◌, ◌-◌, ◌*◌, ◌≤◌, ◌<◌, min, ◌≡◌, List, [], ◌∷◌, ◌++◌, length, Ok, Err}
 use Rattle.sums.specs.Sums.{sum_to}
 use Rattle.sums.specs.Tables.{cell}
 use Rattle.star.specs.declared.refusals.Refusal.{Refusal}
 use Rattle.star.specs.declared.refusals.Refusal.TheVariants.{BooksDisagree}
-use Rattle.star.specs.declared.refusals.Verdict.{Verdict}
-use Rattle.star.specs.declared.refusals.Verdict.TheVariants.{Accepted, Refused}
+use Rattle.star.specs.Refusals.{Verdict, Accepted, Refused, verdict_of}
 use Rattle.star.specs.Schedules.{ConflictFree, count}
-use Rattle.planner.specs.declared.answers.Answer.{Answer}
-use Rattle.planner.specs.Plans.{verdict_of}
+use Rattle.planner.specs.Plans.{Answer}
 use Rattle.planner.specs.Lent.{Lent}
 use Rattle.calls.specs.Held.{Held, LongEnough, disagreeing}
 use Rattle.calls.specs.Runs.{Freshened, Posted, Framed}
@@ -40,8 +38,8 @@ pub data History (n l limit rule : ℕ) : List Event → Held → Type 0 where
 -- ---- what the events alone say of the pair of source i and destination j
 -- x where the event was accepted, and y where it was refused
 abbrev pub whether : (v : Verdict) (x y : ℕ) → ℕ
-whether Accepted x y = x
-whether (Refused r) x y = y
+whether (Ok _) x y = x
+whether (Err r) x y = y
 
 -- the sum of the arrivals of accepted posts
 unfoldable pub arrived : (n : ℕ) (es : List Event) (i j : ℕ) → ℕ

@@ -1,12 +1,9 @@
 -- What follows from the promises of `fresh`, `post` and `frame`, as statements; their proofs are in proofs/CallLaws.antt and proofs/FrameLaws.antt.
 use Rattle.std.specs.Prelude.{ℕ, ◌+◌, ◌*◌, ◌≤◌, ◌<◌, ◌≡◌, List, length, get_or, take}
 use Rattle.star.specs.declared.refusals.Refusal.{Refusal}
-use Rattle.star.specs.declared.refusals.Verdict.{Verdict}
-use Rattle.star.specs.declared.refusals.Verdict.TheVariants.{Accepted, Refused}
+use Rattle.star.specs.Refusals.{Verdict, Accepted, Refused, Ranges, verdict_of}
 use Rattle.star.specs.Tables.{Alike}
-use Rattle.star.specs.Refusals.{Ranges}
-use Rattle.planner.specs.declared.answers.Answer.{Answer}
-use Rattle.planner.specs.Plans.{verdict_of, PlanResult}
+use Rattle.planner.specs.Plans.{Answer, PlanResult}
 use Rattle.planner.specs.Theorems.{SameResults, SameAsNeeded}
 use Rattle.planner.specs.Lent.{Lent, LentRoom}
 use Rattle.calls.specs.Held.{Held, LongEnough, HeldAlike}

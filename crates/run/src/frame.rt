@@ -3,7 +3,8 @@ ghost use Rattle.calls.specs.Runs.{FrameOn};
 
 use calls::frame::{frame_on, frames_after};
 use calls::record::Run;
-use planner::answers::Answer;
+use planner::answers::Report;
+use star::refusals::Refusal;
 
 // Plans a frame with the queues as the demand, takes what is kept from waiting and adds it to sent; frames rises by 1. A refusal, in the order of
 // `frame_notice`, writes nothing.
@@ -16,17 +17,14 @@ pub fn frame(
     kept: &mut [u32],
     withdrawn: &mut [u32],
     schedule: &mut [u8],
-) -> Answer
+) -> Result<Report, Refusal>
     ensures { FrameOn run.old waiting.old posted.now sent.old dropped.now kept.old withdrawn.old schedule.old run.new waiting.new sent.new kept.new withdrawn.new schedule.new result }
 {
     let old = *run;
-    let a = frame_on(
-        old, waiting, posted, sent, dropped, kept, withdrawn, schedule,
-    );
     // A refused frame stores nothing: the record may lie in memory that cannot be written.
-    let Answer::Planned { report: _ } = a else {
-        return a;
-    };
+    let report = frame_on(
+        old, waiting, posted, sent, dropped, kept, withdrawn, schedule,
+    )?;
     run.frames = frames_after(old);
-    a
+    Ok(report)
 }

@@ -3,10 +3,10 @@ ghost use Rattle.calls.specs.Runs.{FreshOn};
 
 use calls::fresh::{fresh_on, started};
 use calls::record::Run;
-use star::refusals::Verdict;
+use star::refusals::Refusal;
 
-// Starts a run: N, L, B and the rule go into the record, both counts and the first N * N cells of the four tables are 0. A refusal, in the order of
-// `fresh_notice`, writes nothing.
+// Starts a run: N, L, B and the rule, a number as C gives it, go into the record, both counts and the first N * N cells of the four tables are 0. A
+// refusal, in the order of `fresh_notice`, writes nothing.
 pub fn fresh(
     run: &mut Run,
     nodes: u32,
@@ -17,17 +17,14 @@ pub fn fresh(
     posted: &mut [u64],
     sent: &mut [u64],
     dropped: &mut [u64],
-) -> Verdict
+) -> Result<(), Refusal>
     ensures { FreshOn nodes slots limit rule run.old waiting.old posted.old sent.old dropped.old run.new waiting.new posted.new sent.new dropped.new result }
 {
     let old = *run;
-    let v = fresh_on(
-        old, nodes, slots, limit, rule, waiting, posted, sent, dropped,
-    );
     // A refused start stores nothing: the record may lie in memory that cannot be written.
-    let Verdict::Accepted = v else {
-        return v;
-    };
+    fresh_on(
+        old, nodes, slots, limit, rule, waiting, posted, sent, dropped,
+    )?;
     *run = started(nodes, slots, limit, rule);
-    v
+    Ok(())
 }

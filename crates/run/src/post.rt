@@ -3,7 +3,7 @@ ghost use Rattle.calls.specs.Runs.{PostOn};
 
 use calls::post::{post_on, posts_after};
 use calls::record::Run;
-use star::refusals::Verdict;
+use star::refusals::Refusal;
 
 // Posts arrivals: each is added to posted, what would lift waiting above B to dropped, the rest to waiting; posts rises by 1. A refusal, in the order
 // of `post_notice`, writes nothing.
@@ -14,15 +14,12 @@ pub fn post(
     posted: &mut [u64],
     sent: &[u64],
     dropped: &mut [u64],
-) -> Verdict
+) -> Result<(), Refusal>
     ensures { PostOn arrivals.now run.old waiting.old posted.old sent.now dropped.old run.new waiting.new posted.new dropped.new result }
 {
     let old = *run;
-    let v = post_on(old, arrivals, waiting, posted, sent, dropped);
     // A refused post stores nothing: the record may lie in memory that cannot be written.
-    let Verdict::Accepted = v else {
-        return v;
-    };
+    post_on(old, arrivals, waiting, posted, sent, dropped)?;
     run.posts = posts_after(old);
-    v
+    Ok(())
 }

@@ -8,7 +8,18 @@ ghost use Rattle.scenario_text.specs.Outcomes.{PrintsFile};
 use scenario_text::answers::{LONGEST_TEXT, answer};
 use std::io;
 use std::io::{Read, Write};
-use streams::{read_full, write_full};
+use streams::Program;
+
+// What the program makes of an input.
+struct Scenario;
+
+impl Program<LONGEST_TEXT> for Scenario {
+    ghost promised = { PrintsFile };
+
+    fn answer(input: &[u8], out: &mut [u8; LONGEST_TEXT]) -> usize {
+        answer(input, out)
+    }
+}
 
 // Answers what the reader has left.
 fn answer_input<R: Read, W: Write>(reader: &mut R, writer: &mut W) -> io::Result<()>
@@ -17,12 +28,7 @@ fn answer_input<R: Read, W: Write>(reader: &mut R, writer: &mut W) -> io::Result
     ensures err { OnErr result (AnswersPartly 65537 PrintsFile
         (R.remaining reader.old) (R.remaining reader.new) (W.contents writer.old) (W.contents writer.new)) }
 {
-    // one byte more than an input may have, so that a longer one is seen
-    let mut input = [0u8; 65537];
-    let got = read_full(reader, &mut input)?;
-    let mut out = [0u8; LONGEST_TEXT];
-    let length = answer(&input[..got], &mut out);
-    write_full(writer, &out[..length])
+    streams::answer_input::<Scenario, _, _, _>(reader, writer)
 }
 
 fn main(rt: HostRuntime) -> io::Result<()> {

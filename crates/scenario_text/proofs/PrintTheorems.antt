@@ -4,10 +4,10 @@ use Prim.Native.Nat.{ℕ, ◌*◌, ◌≤◌}
 use mathlib.Core.Path.{◌≡◌, refl, sym, ◌∙◌}
 use mathlib.Core.List.{List}
 use lib.ListN.{length}
+use Rattle.std.specs.Prelude.{Ok, Err}
 use borrow.Author.Tests.{le-ltb}
 use Rattle.sums.proofs.Cases.{by_lt}
-use Rattle.star.specs.declared.refusals.Verdict.{Verdict}
-use Rattle.star.specs.declared.refusals.Verdict.TheVariants.{Accepted, Refused}
+use Rattle.star.specs.Refusals.{Verdict}
 use Rattle.star.proofs.AlikeLaws.{alike_at}
 use Rattle.star.proofs.RefusalLaws.{passes}
 use Rattle.pieces.proofs.PieceLaws.{join_ext, answered_same}
@@ -51,8 +51,8 @@ agree_certain : (input text₁ text₂ : List ℕ) → PrintsAgree input text₁
 agree_certain input text₁ text₂ a fair = by_lt 65536 (length input) a.long (λ fits. go fits (read_verdict input) refl)
   where
     go : length input ≤ 65536 → (v : Verdict) → read_verdict input ≡ v → text₁ ≡ text₂
-    go fits (Refused r) e = a.refused r fits e
-    go fits Accepted e = a.fair fits e fair
+    go fits (Err r) e = a.refused r fits e
+    go fits (Ok _) e = a.fair fits e fair
 
 pub print_theorems : PrintTheorems
 unfolding print_verdict

@@ -2,15 +2,13 @@
 use Rattle.std.specs.Prelude.{ℕ, ◌≤◌, ◌<◌, ◌≡◌, List, length}
 use Rattle.star.specs.declared.refusals.Refusal.{Refusal}
 use Rattle.star.specs.declared.refusals.Refusal.TheVariants.{TableShort}
-use Rattle.star.specs.declared.refusals.Verdict.{Verdict}
-use Rattle.star.specs.declared.refusals.Verdict.TheVariants.{Accepted, Refused}
+use Rattle.star.specs.Refusals.{Verdict, Accepted, Refused}
 use Rattle.star.specs.Refusals.{refusal_number, refusal_place, Notice, accepted, check, Promise, short}
 use Rattle.star.specs.Checks.{refuse}
 use Rattle.pieces.specs.Pieces.{Answered}
 use Rattle.pieces.specs.Text.{bad_input, refusal_text}
 use Rattle.calls.specs.Held.{Held}
-use Rattle.files.specs.declared.output.Output.{Output}
-use Rattle.files.specs.Output.{output_verdict, output_length}
+use Rattle.files.specs.Output.{Output, output_verdict, output_length}
 use Rattle.files.specs.Format.{nodes_of, entries_of}
 use Rattle.files.specs.Reading.{read_verdict}
 use Rattle.play.specs.Plays.{Played}

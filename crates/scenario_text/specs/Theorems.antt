@@ -2,11 +2,10 @@
 -- proofs/PrintTheorems.antt.
 use Rattle.std.specs.Prelude.{ℕ, ◌*◌, ◌≤◌, ◌<◌, ◌≡◌, List, length, get_or}
 use Rattle.star.specs.declared.refusals.Refusal.{Refusal}
-use Rattle.star.specs.declared.refusals.Verdict.TheVariants.{Accepted, Refused}
+use Rattle.star.specs.Refusals.{Accepted, Refused}
 use Rattle.pieces.specs.Pieces.{Answered}
 use Rattle.calls.specs.Held.{Held}
-use Rattle.files.specs.declared.output.Output.{Output}
-use Rattle.files.specs.Output.{output_verdict}
+use Rattle.files.specs.Output.{Output, output_verdict}
 use Rattle.files.specs.Format.{nodes_of, rule_of, entries_of}
 use Rattle.files.specs.Reading.{read_verdict}
 use Rattle.play.specs.Plays.{Played}

@@ -1,63 +1,63 @@
 // The answer to an input: `bad input`, a refusal, or the lines of the run.
-ghost use Rattle.std.specs.Prelude.{◌≡◌, ◌≤◌, length};
-ghost use Rattle.star.specs.declared.refusals.Verdict.TheVariants.{Accepted};
-ghost use Rattle.star.specs.Refusals.{refusal_number, refusal_place};
-ghost use Rattle.pieces.specs.Pieces.{Appended, Answered};
-ghost use Rattle.pieces.specs.Text.{refusal_text};
+ghost use Rattle.std.specs.Prelude.{◌≡◌, ◌+◌, ◌≤◌};
+ghost use Rattle.star.specs.Refusals.{Accepted};
+ghost use Rattle.pieces.specs.Pieces.{HasRoom, PutsSome, Answered};
 ghost use Rattle.files.specs.Format.{nodes_of};
 ghost use Rattle.files.specs.Reading.{read_verdict};
 ghost use Rattle.scenario_text.specs.Lines.{longest_text};
 ghost use Rattle.scenario_text.specs.Outcomes.{PrintsFile, PrintsRun, PrintResult};
 
-use crate::lines::put_lines;
-use files::output::Output;
-use files::reading::{Reading, read};
-use pieces::{put_bad_input, put_refusal};
+use crate::lines::{Tables, put_lines};
+use files::reading::read;
+use pieces::Pieces;
 use play::play;
-use star::refusals::{Refusal, Verdict, number, place};
+use star::refusals::Refusal;
 
 // Bytes enough for the longest text.
 pub const LONGEST_TEXT: usize = 516096;
 
-// Prints a refusal.
-fn put_refused_file(out: &mut [u8], refusal: Refusal) -> usize
-    requires { longest_text ≤ length out.old }
-    ensures { (Appended out.old out.new 0 result (refusal_text (refusal_number refusal) (refusal_place refusal))) × (result ≤ longest_text) }
-{
-    let verdict = Verdict::Refused { refusal };
-    put_refusal(out, number(verdict) as u64, place(verdict) as u64)
-}
+// So many bytes an input may have.
+const MOST_BYTES: usize = 65536;
 
 // Plays an accepted file of n nodes, and prints what is held then.
-fn put_run(out: &mut [u8], file: &[u8], n: usize) -> usize
-    requires { (longest_text ≤ length out.old) × (read_verdict file.now ≡ Accepted) × (n ≡ nodes_of file.now) }
-    ensures { (Answered (PrintsRun file.now) out.old out.new result) × (result ≤ longest_text) }
+fn put_run(text: &mut Pieces, file: &[u8], n: usize)
+    requires room { HasRoom text.old longest_text }
+    requires accepted { read_verdict file.now ≡ Accepted }
+    requires nodes { n ≡ nodes_of file.now }
+    ensures puts { PutsSome (PrintsRun file.now) text.old text.new }
+    ensures short { text.new.at ≤ text.old.at + longest_text }
 {
-    let mut waiting = [0u32; 4096];
-    let mut posted = [0u64; 4096];
-    let mut sent = [0u64; 4096];
-    let mut dropped = [0u64; 4096];
-    play(file, &mut waiting, &mut posted, &mut sent, &mut dropped);
-    put_lines(out, n, &posted, &sent, &dropped, &waiting)
+    let mut tables = Tables {
+        waiting: [0; 4096],
+        posted: [0; 4096],
+        sent: [0; 4096],
+        dropped: [0; 4096],
+    };
+    play(
+        file,
+        &mut tables.waiting,
+        &mut tables.posted,
+        &mut tables.sent,
+        &mut tables.dropped,
+    );
+    put_lines(text, n, &tables);
 }
 
-// Prints the answer to an input from the front, and gives its length.
-fn put_outcome(out: &mut [u8], input: &[u8]) -> usize
-    requires { longest_text ≤ length out.old }
-    ensures { (Answered (PrintsFile input.now) out.old out.new result) × (result ≤ longest_text) }
+// Prints the answer to an input.
+fn put_outcome(text: &mut Pieces, input: &[u8])
+    requires { HasRoom text.old longest_text }
+    ensures puts { PutsSome (PrintsFile input.now) text.old text.new }
+    ensures short { text.new.at ≤ text.old.at + longest_text }
 {
-    if input.len() > 65536 {
-        return put_bad_input(out);
+    if input.len() > MOST_BYTES {
+        text.put_bad_input();
+        return;
     }
     match read(input) {
-        Reading::Refused { refusal } => put_refused_file(out, refusal),
-        Reading::Table {
-            nodes,
-            slots: _,
-            limit: _,
-            rule: _,
-            entries: _,
-        } => put_run(out, input, nodes as usize),
+        Ok(head) => put_run(text, input, head.nodes as usize),
+        Err(refusal) => {
+            text.put_refusal(u64::from(refusal.number()), u64::from(refusal.place()))
+        }
     }
 }
 
@@ -65,19 +65,19 @@ fn put_outcome(out: &mut [u8], input: &[u8]) -> usize
 pub fn answer(input: &[u8], out: &mut [u8; LONGEST_TEXT]) -> usize
     ensures { Answered (PrintsFile input.now) out.old out.new result }
 {
-    put_outcome(out, input)
+    let mut text = Pieces::new(out);
+    put_outcome(&mut text, input);
+    text.length()
 }
 
 // The same into bytes of any length: refused by 5, and then nothing is written, where they are fewer than the longest text may take.
-pub fn print(file: &[u8], text: &mut [u8]) -> Output
+pub fn print(file: &[u8], text: &mut [u8]) -> Result<u32, Refusal>
     ensures { PrintResult file.now text.old text.new result }
 {
     if text.len() < LONGEST_TEXT {
-        return Output::Refused {
-            refusal: Refusal::TableShort,
-        };
+        return Err(Refusal::TableShort);
     }
-    Output::Bytes {
-        length: put_outcome(text, file) as u32,
-    }
+    let mut pieces = Pieces::new(text);
+    put_outcome(&mut pieces, file);
+    Ok(pieces.length() as u32)
 }

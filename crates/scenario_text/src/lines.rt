@@ -1,81 +1,65 @@
 // The printed lines, piece by piece.
-ghost use Rattle.std.specs.Prelude.{◌+◌, ◌≤◌, length};
-ghost use Rattle.pieces.specs.Pieces.{Appended};
-ghost use Rattle.play.specs.Plays.{LargeTables};
+ghost use Rattle.std.specs.Prelude.{◌+◌, ◌*◌, ◌≤◌, ◌<◌, length, get_or};
+ghost use Rattle.pieces.specs.Pieces.{HasRoom, Puts};
+ghost use Rattle.pieces.specs.Text.{marked};
 ghost use Rattle.scenario_text.specs.Lines.{line_text, pair_text, lines_text, longest_text};
 
-use pieces::put_marked;
+use pieces::Pieces;
+
+// The tables of a played run, for up to 64 nodes.
+#[derive(Drop)]
+pub struct Tables {
+    pub waiting: [u32; 4096],
+    pub posted: [u64; 4096],
+    pub sent: [u64; 4096],
+    pub dropped: [u64; 4096],
+}
+
+// A number of at most twenty digits, and the byte after it.
+fn put_number(text: &mut Pieces, number: u64, mark: u8)
+    requires { HasRoom text.old 21 }
+    ensures puts { Puts text.old text.new (marked number mark) }
+    ensures short { length (marked number mark) ≤ 21 }
+{
+    text.put_marked(number, mark);
+}
 
 // The line of a pair.
-fn put_line(
-    out: &mut [u8],
-    at: usize,
-    n: usize,
-    pair: usize,
-    posted: u64,
-    sent: u64,
-    dropped: u64,
-    waiting: u32,
-) -> usize
-    requires { (1 ≤ n) × (at + length (line_text n pair posted sent dropped waiting) ≤ length out.old) }
-    ensures { Appended out.old out.new at result (line_text n pair posted sent dropped waiting) }
+fn put_line(text: &mut Pieces, n: usize, pair: usize, tables: &Tables)
+    requires pair { (1 ≤ n) × (pair < 4096) }
+    requires room { HasRoom text.old 126 }
+    ensures puts { Puts text.old text.new (line_text n pair (get_or tables.now.posted pair 0) (get_or tables.now.sent pair 0) (get_or tables.now.dropped pair 0) (get_or tables.now.waiting pair 0)) }
+    ensures short { text.new.at ≤ text.old.at + 126 }
 {
-    let after_source = put_marked(out, at, (pair / n) as u64, 32);
-    let after_destination = put_marked(out, after_source, (pair % n) as u64, 32);
-    let after_posted = put_marked(out, after_destination, posted, 32);
-    let after_sent = put_marked(out, after_posted, sent, 32);
-    let after_dropped = put_marked(out, after_sent, dropped, 32);
-    put_marked(out, after_dropped, waiting as u64, 10)
+    put_number(text, (pair / n) as u64, b' ');
+    put_number(text, (pair % n) as u64, b' ');
+    put_number(text, tables.posted[pair], b' ');
+    put_number(text, tables.sent[pair], b' ');
+    put_number(text, tables.dropped[pair], b' ');
+    put_number(text, u64::from(tables.waiting[pair]), b'\n');
 }
 
 // The line of a pair, or nothing where nothing was posted.
-fn put_pair(
-    out: &mut [u8],
-    at: usize,
-    n: usize,
-    pair: usize,
-    posted: u64,
-    sent: u64,
-    dropped: u64,
-    waiting: u32,
-) -> usize
-    requires { (1 ≤ n) × (at + length (pair_text n pair posted sent dropped waiting) ≤ length out.old) }
-    ensures { Appended out.old out.new at result (pair_text n pair posted sent dropped waiting) }
+fn put_pair(text: &mut Pieces, n: usize, pair: usize, tables: &Tables)
+    requires pair { (1 ≤ n) × (pair < 4096) }
+    requires room { HasRoom text.old 126 }
+    ensures puts { Puts text.old text.new (pair_text n pair (get_or tables.now.posted pair 0) (get_or tables.now.sent pair 0) (get_or tables.now.dropped pair 0) (get_or tables.now.waiting pair 0)) }
+    ensures short { text.new.at ≤ text.old.at + 126 }
 {
-    if posted == 0 {
-        return at;
+    if tables.posted[pair] == 0 {
+        return;
     }
-    put_line(out, at, n, pair, posted, sent, dropped, waiting)
+    put_line(text, n, pair, tables);
 }
 
-// The lines of all pairs, from the front.
-pub fn put_lines(
-    out: &mut [u8],
-    n: usize,
-    posted: &[u64],
-    sent: &[u64],
-    dropped: &[u64],
-    waiting: &[u32],
-) -> usize
-    requires numbers { (1 ≤ n) × (n ≤ 64) × (longest_text ≤ length out.old) }
-    requires large_tables { LargeTables waiting.now posted.now sent.now dropped.now }
-    ensures { (Appended out.old out.new 0 result (lines_text n posted.now sent.now dropped.now waiting.now)) × (result ≤ longest_text) }
+// The lines of all pairs.
+pub fn put_lines(text: &mut Pieces, n: usize, tables: &Tables)
+    requires nodes { (1 ≤ n) × (n ≤ 64) }
+    requires room { HasRoom text.old longest_text }
+    ensures puts { Puts text.old text.new (lines_text n tables.now.posted tables.now.sent tables.now.dropped tables.now.waiting) }
+    ensures short { text.new.at ≤ text.old.at + longest_text }
 {
-    let cells = n * n;
-    let mut next = 0;
-    let mut pair = 0;
-    while pair < cells {
-        next = put_pair(
-            out,
-            next,
-            n,
-            pair,
-            posted[pair],
-            sent[pair],
-            dropped[pair],
-            waiting[pair],
-        );
-        pair += 1;
+    for pair in 0..n * n {
+        put_pair(text, n, pair, tables);
     }
-    next
 }

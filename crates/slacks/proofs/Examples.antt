@@ -6,9 +6,7 @@ use lib.IntN.{ℤ, pos, negsuc}
 use Rattle.sums.specs.Sums.{sum_to}
 use Rattle.sums.specs.Searches.{first_below, first_from}
 use Rattle.sums.specs.Tables.{cell, tab, written}
-use Rattle.star.specs.declared.refusals.Verdict.{Verdict}
-use Rattle.star.specs.declared.refusals.Verdict.TheVariants.{Accepted}
-use Rattle.star.specs.Refusals.{Notice, notice, notice_of, first_above}
+use Rattle.star.specs.Refusals.{Verdict, Accepted, Notice, notice, notice_of, first_above}
 use Rattle.star.specs.Lines.{slack, whole_frame, line_sum, on_line, source_on, destination_on}
 use Rattle.star.specs.Checks.{sizes_verdict, demand_short_verdict, demand_above_verdict, refuse, then}
 use Rattle.slacks.specs.Slacks.{SlacksResult}

@@ -3,9 +3,8 @@ use Prim.Native.Nat.{ℕ, ◌*◌, ◌≤◌}
 use mathlib.Core.Path.{◌≡◌, refl}
 use mathlib.Core.List.{List}
 use borrow.Author.Tests.{ltb-false}
-use Rattle.star.specs.declared.refusals.Verdict.TheVariants.{Accepted}
 use Rattle.star.specs.Tables.{Demands}
-use Rattle.star.specs.Refusals.{notice_of, Sizes}
+use Rattle.star.specs.Refusals.{Accepted, notice_of, Sizes}
 use Rattle.star.specs.Checks.{sizes_verdict, demand_short_verdict, demand_above_verdict, then}
 use Rattle.star.specs.Rooms.{Square}
 use Rattle.star.proofs.RefusalLaws.{in_numbers, passed, then_passed, group_in_numbers, sized, long_demand, within}

@@ -6,12 +6,11 @@ use lib.IntN.{ℤ}
 use lib.ListN.{length, take}
 use borrow.Author.Tests.{le-ltb}
 use Rattle.sums.proofs.Tables.{length_tab, tab_ext, written_first, written_length}
-use Rattle.star.specs.declared.refusals.Verdict.{Verdict}
-use Rattle.star.specs.declared.refusals.Verdict.TheVariants.{Accepted, Refused}
+use Rattle.std.specs.Prelude.{Ok, Err}
 use Rattle.star.specs.Tables.{Demands, Alike}
 use Rattle.star.specs.Lines.{whole_frame}
 use Rattle.star.specs.Checks.{demand_short_verdict, demand_above_verdict}
-use Rattle.star.specs.Refusals.{Sizes}
+use Rattle.star.specs.Refusals.{Verdict, Accepted, Sizes}
 use Rattle.star.proofs.RefusalLaws.{passes, then_goes, sizes_fit, demand_fits, demand_within, promise_same}
 use Rattle.star.proofs.AlikeLaws.{alike_cell, alike_above, both_long, slack_ext}
 use Rattle.slacks.specs.Slacks.{SlacksResult}
@@ -26,9 +25,9 @@ plainly n l d cells sizes demand lines within =
     then_goes (sizes_fit n l sizes) refl (then_goes (demand_fits n _ demand) refl (then_goes (passes _ (le-ltb _ _ lines) refl) refl (demand_within n d within)))
 
 same_length : (n l : ℕ) (d : List ℕ) (table table' : List ℤ) (v : Verdict) → SlacksResult n l d table table' v → length table' ≡ length table
-same_length n l d table table' Accepted x =
+same_length n l d table table' (Ok _) x =
     ap length (x.accepted refl) ∙ written_length (2 * n) _ table (length_tab _ (2 * n)) (slacks_fits n l d (length table) (sym x.answer)).lines
-same_length n l d table table' (Refused r) x = ap length (x.refused r refl)
+same_length n l d table table' (Err r) x = ap length (x.refused r refl)
 
 module _ (n l : ℕ) (d e : List ℕ) (cells₁ cells₂ : ℕ) (same : Alike (n * n) d e) (fits₁ : 2 * n ≤ cells₁) (fits₂ : 2 * n ≤ cells₂) where
   alike_verdict : slacks_verdict n l d cells₁ ≡ slacks_verdict n l e cells₂

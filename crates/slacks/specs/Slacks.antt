@@ -1,8 +1,7 @@
 -- The entry `slacks`: which refusal it gives, in which order, and what its table then holds.
 use Rattle.std.specs.Prelude.{ℕ, ◌*◌, ◌≡◌, List, length, ℤ}
 use Rattle.sums.specs.Tables.{tab, written}
-use Rattle.star.specs.declared.refusals.Verdict.{Verdict}
-use Rattle.star.specs.Refusals.{Notice, accepted, check, Promise, nodes_out, slots_out, short, some_cell, first_above}
+use Rattle.star.specs.Refusals.{Verdict, Notice, accepted, check, Promise, nodes_out, slots_out, short, some_cell, first_above}
 use Rattle.star.specs.Lines.{slack, whole_frame}
 use Rattle.slacks.specs.Checks.{slacks_verdict}
 

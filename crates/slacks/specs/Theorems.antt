@@ -1,9 +1,7 @@
 -- What follows from the promise of `slacks`, as statements; their proofs are in proofs/SlacksTheorems.antt.
 use Rattle.std.specs.Prelude.{ℕ, ◌*◌, ◌≤◌, ◌<◌, ◌≡◌, List, ℤ, length, get_or, take}
-use Rattle.star.specs.declared.refusals.Verdict.{Verdict}
-use Rattle.star.specs.declared.refusals.Verdict.TheVariants.{Accepted}
 use Rattle.star.specs.Tables.{Alike}
-use Rattle.star.specs.Refusals.{Sizes}
+use Rattle.star.specs.Refusals.{Verdict, Accepted, Sizes}
 use Rattle.slacks.specs.Slacks.{SlacksResult}
 
 pub record SlacksTheorems : Type 0 where

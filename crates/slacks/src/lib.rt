@@ -11,7 +11,7 @@ ghost use Rattle.slacks.specs.Checks.{slacks_verdict};
 
 use star::checks::{demand_above, demand_short, sizes};
 use star::lines::{line_sums, slack};
-use star::refusals::{Refusal, Verdict};
+use star::refusals::Refusal;
 
 // Writes the slack of each line, given the capacity of each: first the sums of all lines are made.
 fn write_slacks(n: usize, cap: &[u32], demand: &[u32], table: &mut [i32])
@@ -21,46 +21,32 @@ fn write_slacks(n: usize, cap: &[u32], demand: &[u32], table: &mut [i32])
 {
     let mut sums = [0u32; 128];
     line_sums(n, demand, &mut sums);
-    let lines = 2 * n;
-    let mut line = 0;
-    while line < lines {
+    for line in 0..2 * n {
         table[line] = slack(cap[line], sums[line]);
-        line += 1;
     }
 }
 
 // Which refusal is given, if any; the last number says how many cells the table has.
-fn slacks_verdict(nodes: u32, slots: u32, demand: &[u32], cells: usize) -> Verdict
+#[tactic(auto, using(star::proofs::RefusalLaws::sized, star::proofs::RefusalLaws::long_demand), unfolding(star::specs::Checks::refuse, star::specs::Checks::then, crate::specs::Checks::slacks_verdict))]
+fn slacks_verdict(nodes: u32, slots: u32, demand: &[u32], cells: usize) -> Result<(), Refusal>
     ensures { result ≡ slacks_verdict nodes slots demand.now cells }
 {
-    let v = sizes(nodes, slots);
-    let Verdict::Accepted = v else {
-        return v;
-    };
+    sizes(nodes, slots)?;
     let n = nodes as usize;
-    let v = demand_short(n, demand.len());
-    let Verdict::Accepted = v else {
-        return v;
-    };
+    demand_short(n, demand.len())?;
     if cells < 2 * n {
-        return Verdict::Refused {
-            refusal: Refusal::TableShort,
-        };
+        return Err(Refusal::TableShort);
     }
     demand_above(n, demand)
 }
 
 // The slack of each line, rows first, to a table of 2N cells. A refusal, in the order of `slacks_notice`, writes nothing.
-pub fn slacks(nodes: u32, slots: u32, demand: &[u32], table: &mut [i32]) -> Verdict
+pub fn slacks(nodes: u32, slots: u32, demand: &[u32], table: &mut [i32]) -> Result<(), Refusal>
     ensures { SlacksResult nodes slots demand.now table.old table.new result }
 {
-    let v = slacks_verdict(nodes, slots, demand, table.len());
-    let Verdict::Accepted = v else {
-        return v;
-    };
+    slacks_verdict(nodes, slots, demand, table.len())?;
     let n = nodes as usize;
     let cap = [slots; 128];
-    let lines = 2 * n;
-    write_slacks(n, &cap[..lines], demand, table);
-    v
+    write_slacks(n, &cap[..2 * n], demand, table);
+    Ok(())
 }

@@ -117,17 +117,6 @@ module _ {n r : ℕ} {table0 may0 source0 destination0 bytes0 schedule0 table ma
       }
 
 -- ---- the slots after r
-pub rest_none : {n r l : ℕ} (s : List ℕ) → r ≤ l → l ≤ r → Rested n r l s s 0
-rest_none {n} {r} {l} s le ge =
-    let e : l ≡ r = omega arith in
-    record {
-      idle = λ k j lo hi hj. absurd (omega arith);
-      old = λ k j hk hj. refl;
-      changes = rw e (omega arith);
-      most = omega arith;
-      beyond = refl;
-    }
-
 pub rest_some : {n r l : ℕ} {s u idle : List ℕ} {more : ℕ} → ((j : ℕ) → j < n → get_or idle j 0 ≡ 255) → Extended n s u idle r l more → Rested n r l s u more
 rest_some says x = record {
   idle = λ k j lo hi hj. x.wrote.new k j lo hi hj ∙ says j hj;

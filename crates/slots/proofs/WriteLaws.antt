@@ -1,19 +1,18 @@
 -- Writing: what the loops over destinations and slots keep, that a setting more keeps what was placed, and what it adds to the
 -- reconfigurations. The laws assume nothing.
-use mathlib.Core.Path.{◌≡◌, refl, sym, ap, ◌∙◌, subst}
+use mathlib.Core.Path.{◌≡◌, sym, ap, ◌∙◌, subst}
 use mathlib.Core.Logic.{◌⊎◌}
 use mathlib.Core.List.{List}
 use Prim.Native.Nat.{ℕ, ◌+◌, ◌-◌, ◌*◌, ◌≤◌, ◌<◌}
 use native.Mathlib.Omega.{arith}
 use borrow.Author.Count.{below_more}
-use lib.ListN.{length, get_or, set, drop, length-set}
+use lib.ListN.{length, get_or, set, drop}
 use Rattle.sums.specs.Sums.{hit}
 use Rattle.sums.specs.Tables.{cell}
 use Rattle.sums.proofs.Sums.{sum_ext, sum_run}
 use Rattle.sums.proofs.Cases.{by_lt}
 use Rattle.sums.proofs.Tables.{set_here, set_row, set_col}
 use Rattle.star.specs.Schedules.{ConflictFree, count, reconfigurations}
-use Rattle.arrays.specs.Arrays.{Slot}
 use Rattle.arrays.proofs.Stores.{beyond_kept, beyond_more}
 use Rattle.changes.specs.Changes.{change_at}
 use Rattle.changes.proofs.ChangeLaws.{changes_more, change_most}
@@ -23,66 +22,28 @@ use Rattle.slots.specs.Rounds.{Placed}
 
 -- ---- the destinations below j of slot k are written
 pub record Writing (n : ℕ) (s u bytes : List ℕ) (k j : ℕ) : Type 0 where
-  pub upto : j ≤ n
-  pub len : length u ≡ length s
   pub new : (v : ℕ) → v < j → cell n u k v ≡ get_or bytes v 0
   pub old : (m v : ℕ) → m < k → v < n → cell n u m v ≡ cell n s m v
   pub beyond : drop ((k + 1) * n) u ≡ drop ((k + 1) * n) s
 
-pub write_start : (n : ℕ) (s bytes : List ℕ) (k : ℕ) → Writing n s s bytes k 0
-write_start n s bytes k = record { upto = omega arith; len = refl; new = λ v lt. absurd (omega arith); old = λ m v hm hv. refl; beyond = refl }
-
-pub write_step : {n : ℕ} {s u bytes : List ℕ} {k j b : ℕ} → Slot n s k → j < n → b ≡ get_or bytes j 0 → Writing n s u bytes k j → Writing n s (set u (k * n + j) b) bytes k (j + 1)
-write_step {n} {s} {u} {bytes} {k} {j} {b} f hj eb g = record {
-  upto = omega arith;
-  len = length-set u (k * n + j) b ∙ g.len;
+pub write_step : {n : ℕ} {s u bytes : List ℕ} {k j b : ℕ} → k * n + n ≤ length u → j < n → b ≡ get_or bytes j 0 → Writing n s u bytes k j → Writing n s (set u (k * n + j) b) bytes k (j + 1)
+write_step {n} {s} {u} {bytes} {k} {j} {b} fits hj eb g = record {
   new = below_more (λ (v : ℕ). cell n (set u (k * n + j) b) k v ≡ get_or bytes v 0) j
       (λ v hv. set_col n u k j b hj k v (omega arith) (λ e. omega arith) ∙ g.new v hv)
-      (set_here n u k j b hj (omega (arith, f.cells, g.len)) ∙ eb);
+      (set_here n u k j b hj (omega arith) ∙ eb);
   old = λ m v hm hv. set_row n u k j b hj m v hv (λ e. omega arith) ∙ g.old m v hm hv;
   beyond = beyond_kept n (k + 1) k j b u (omega arith) hj ∙ g.beyond;
 }
 
-pub write_end : {n : ℕ} {s u bytes : List ℕ} {k j : ℕ} → Writing n s u bytes k j → n ≤ j → WroteSlots n s u bytes k (k + 1)
-write_end {k = k} g le = record {
-  new = λ m v lo hi hv.
-      let e : m ≡ k = omega arith in
-      rw e (g.new v (omega arith));
-  old = g.old;
-  beyond = g.beyond;
+-- ---- the slots up to k are written, and slot k
+pub fill_step : {n : ℕ} {s u w bytes : List ℕ} {from k : ℕ} → from ≤ k → WroteSlots n s u bytes from k → WroteSlots n u w bytes k (k + 1) → WroteSlots n s w bytes from (k + 1)
+fill_step {n = n} {s = s} {u = u} {k = k} le g b = record {
+  new = λ m v lo hi hv. by_lt m k
+      (λ less. b.old m v less hv ∙ g.new m v lo less hv)
+      (λ ge. b.new m v ge hi hv);
+  old = λ m v hm hv. b.old m v (omega arith) hv ∙ g.old m v hm hv;
+  beyond = b.beyond ∙ beyond_more n k (k + 1) u s (omega arith) g.beyond;
 }
-
--- ---- the slots up to k are written
-pub record Filling (n : ℕ) (s u bytes : List ℕ) (from to k : ℕ) : Type 0 where
-  pub from_le : from ≤ k
-  pub upto : k ≤ to
-  pub len : length u ≡ length s
-  pub wrote : WroteSlots n s u bytes from k
-
-pub fill_start : (n : ℕ) (s bytes : List ℕ) (from to : ℕ) → from ≤ to → Filling n s s bytes from to from
-fill_start n s bytes from to le = record {
-  from_le = omega arith;
-  upto = le;
-  len = refl;
-  wrote = record { new = λ m v lo hi hv. absurd (omega arith); old = λ m v hm hv. refl; beyond = refl };
-}
-
-pub fill_step : {n : ℕ} {s u w bytes : List ℕ} {from to k : ℕ} → k < to → length w ≡ length u → Filling n s u bytes from to k → WroteSlots n u w bytes k (k + 1) → Filling n s w bytes from to (k + 1)
-fill_step {n = n} {s = s} {u = u} {k = k} lt e g b = record {
-  from_le = omega (arith, g.from_le);
-  upto = omega arith;
-  len = e ∙ g.len;
-  wrote = record {
-    new = λ m v lo hi hv. by_lt m k
-        (λ less. b.old m v less hv ∙ g.wrote.new m v lo less hv)
-        (λ ge. b.new m v ge hi hv);
-    old = λ m v hm hv. b.old m v (omega (arith, g.from_le)) hv ∙ g.wrote.old m v hm hv;
-    beyond = b.beyond ∙ beyond_more n k (k + 1) u s (omega arith) g.wrote.beyond;
-  };
-}
-
-pub fill_end : {n : ℕ} {s u bytes : List ℕ} {from to k : ℕ} → Filling n s u bytes from to k → to ≤ k → WroteSlots n s u bytes from to
-fill_end {to = to} {k = k} g le = let e : k ≡ to = omega (arith, g.upto) in rw e at g.wrote
 
 -- ---- a run of equal slots more
 module _ {n : ℕ} {s u bytes : List ℕ} {t : ℕ} (h : ℕ) (w : WroteSlots n s u bytes t (t + h)) where

@@ -4,7 +4,8 @@ ghost use Rattle.slots.specs.Rounds.{CanRound, CanSettle, Rounded};
 use crate::writing;
 use holds::turns;
 
-// Writes the r slots, with lists to work in: what may be paired, the pairs, and what the destinations hear. Gives the reconfigurations.
+// Writes the r slots, with lists to work in: what may be paired, the pairs, and what the destinations hear. Gives the reconfigurations. The loop goes on
+// by as many slots as a setting is held for, so it is no `for`.
 fn rounds(
     n: usize,
     r: usize,
@@ -31,23 +32,34 @@ fn rounds(
     changes
 }
 
+// The lists to work in, as one value: so they take one place of the stack, where flow has its own lists before.
+#[derive(Drop)]
+struct Lists {
+    may: [u64; 64],
+    source: [u8; 64],
+    destination: [u8; 64],
+    bytes: [u8; 64],
+}
+
 // Writes the r slots: every pair gets what it keeps, where every line of what the pairs get sums to r. Gives the reconfigurations.
 pub fn settle(n: usize, r: usize, table: &mut [u32], schedule: &mut [u8]) -> u32
     requires { CanSettle n r table.old schedule.old }
     ensures { Rounded n r table.old schedule.old table.new schedule.new result }
 {
-    let mut may = [0u64; 64];
-    let mut source = [0u8; 64];
-    let mut destination = [0u8; 64];
-    let mut bytes = [0u8; 64];
+    let mut lists = Lists {
+        may: [0; 64],
+        source: [0; 64],
+        destination: [0; 64],
+        bytes: [0; 64],
+    };
     rounds(
         n,
         r,
         table,
-        &mut may,
-        &mut source,
-        &mut destination,
-        &mut bytes,
+        &mut lists.may,
+        &mut lists.source,
+        &mut lists.destination,
+        &mut lists.bytes,
         schedule,
     )
 }

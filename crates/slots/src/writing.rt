@@ -3,17 +3,15 @@ ghost use Rattle.std.specs.Prelude.{◌+◌, ◌<◌, ◌≤◌, length};
 ghost use Rattle.arrays.specs.Arrays.{Frame, Slot};
 ghost use Rattle.slots.specs.Writing.{WroteSlots, Extended};
 
-use arrays::{frames, lists};
+use arrays::frames;
 
 // Writes the bytes into slot k.
 fn write_slot(n: usize, schedule: &mut [u8], bytes: &[u8], k: usize)
     requires { (n ≤ 64) × (Slot n schedule.old k) × (n ≤ length bytes.now) }
     ensures { WroteSlots n schedule.old schedule.new bytes.now k (k + 1) }
 {
-    let mut j = 0;
-    while j < n {
-        frames::say(n, schedule, k, j, lists::byte(bytes, j));
-        j += 1;
+    for j in 0..n {
+        frames::say(n, schedule, k, j, usize::from(bytes[j]));
     }
 }
 
@@ -23,10 +21,8 @@ fn write_slots(n: usize, schedule: &mut [u8], bytes: &[u8], from: usize, to: usi
     requires room { (n ≤ length bytes.now) × (from ≤ to) }
     ensures { WroteSlots n schedule.old schedule.new bytes.now from to }
 {
-    let mut k = from;
-    while k < to {
+    for k in from..to {
         write_slot(n, schedule, bytes, k);
-        k += 1;
     }
 }
 

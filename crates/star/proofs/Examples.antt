@@ -1,6 +1,6 @@
 -- Document 01's table of refusals, its ranges, and its words on lines and schedules, at their edges: each by computation, so that no definition can be
 -- changed together with the code unnoticed. Assumes nothing.
-use Prim.Native.Nat.{◌<◌}
+use Prim.Native.Nat.{ℕ, ◌<◌}
 use native.Mathlib.Omega.{arith}
 use mathlib.Core.Path.{◌≡◌, refl}
 use mathlib.Core.Logic.{⊎_elim}
@@ -12,9 +12,11 @@ use Rattle.sums.specs.Sums.{sum_to, hit}
 use Rattle.sums.specs.Searches.{first_below, first_from, some_below}
 use Rattle.sums.specs.Tables.{cell, tab, square}
 use Rattle.star.specs.declared.refusals.Refusal.TheVariants.{Nodes, Slots, Rule, DemandShort, TableShort, DemandAbove, QueueLimit, BooksDisagree, CallsSpent, BadFile}
-use Rattle.star.specs.declared.refusals.Verdict.TheVariants.{Accepted, Refused}
 use Rattle.star.specs.Lines.{source_on, destination_on, on_line, line_sum, total, whole_frame, slack, overflows, excess, critical, Admissible}
-use Rattle.star.specs.Refusals.{refusal_number, refusal_place, verdict_number, verdict_place, nodes_out, slots_out, rule_out, limit_out, short, spent, some_cell, first_above}
+use Rattle.star.specs.declared.rules.Rule.TheVariants.{Fair, Least}
+use Rattle.star.specs.Rules.{rule_number}
+use Rattle.std.specs.Prelude.{Ok, Err}
+use Rattle.star.specs.Refusals.{Accepted, Refused, verdict_of, refusal_number, refusal_place, verdict_number, verdict_place, nodes_out, slots_out, rule_out, limit_out, short, spent, some_cell, first_above}
 use Rattle.star.specs.Checks.{sizes_verdict, rule_verdict, rule_and_limit_verdict, ranges_verdict, demand_short_verdict, demand_above_verdict, refuse, then}
 use Rattle.star.specs.Schedules.{ConflictFree, ConflictFreeWithin, count, heard_in, hears_in, refused_by, differ, reconfigurations}
 
@@ -37,6 +39,14 @@ reports = refl
 
 reports_place : map verdict_place (Accepted ∷ Refused (DemandAbove 3) ∷ []) ≡ 0 ∷ 3 ∷ []
 reports_place = refl
+
+-- The verdict of an answer says nothing of what an accepted call reports.
+verdicts : map (verdict_of {A = ℕ}) (Ok 7 ∷ Err (DemandAbove 3) ∷ []) ≡ Accepted ∷ Refused (DemandAbove 3) ∷ []
+verdicts = refl
+
+-- rule 0 fair, 1 least
+rules : map rule_number (Fair ∷ Least ∷ []) ≡ 0 ∷ 1 ∷ []
+rules = refl
 
 -- ---- the ranges, at both ends: the last number outside and the first inside, the last inside and the first outside
 -- N 1 to 64

@@ -9,14 +9,21 @@ use mathlib.Core.List.{List}
 use lib.ListN.{get_or}
 use lib.Dec.{ltb}
 use borrow.Author.Tests.{lt-ltb, le-ltb, ltb-false}
-use Rattle.sums.proofs.Searches.{first_none, first_before}
+use Rattle.std.specs.Prelude.{Result, Ok, Err, IsErrAnd, Some, None}
+use Rattle.sums.specs.Searches.{found}
+use Rattle.sums.proofs.Cases.{by_lt}
+use Rattle.sums.proofs.Searches.{first_none, first_before, found_some, found_none}
 use Rattle.star.specs.declared.refusals.Refusal.{Refusal}
 use Rattle.star.specs.declared.refusals.Refusal.TheVariants.{Nodes, Slots, Rule, QueueLimit}
-use Rattle.star.specs.declared.refusals.Verdict.{Verdict}
-use Rattle.star.specs.declared.refusals.Verdict.TheVariants.{Accepted, Refused}
 use Rattle.star.specs.Tables.{Demands}
-use Rattle.star.specs.Refusals.{Notice, notice_of, check, refusal_number, refusal_place, Promise, outside, nodes_out, slots_out, rule_out, limit_out, some_cell, first_above_in, first_above, Sizes, Ranges}
+use Rattle.star.specs.Refusals.{Verdict, Accepted, Refused, Notice, notice_of, check, refusal_number, refusal_place, Promise, outside, nodes_out, slots_out, rule_out, limit_out, some_cell, first_above_in, first_above, Sizes, Ranges}
 use Rattle.star.specs.Checks.{sizes_verdict, rule_verdict, rule_and_limit_verdict, ranges_verdict, demand_short_verdict, demand_above_verdict, refuse, then}
+
+some_same : {x y : ℕ} → Some x ≡ Some y → x ≡ y
+some_same e = cc
+
+none_some : {x : ℕ} → None ≡ Some x → ⊥
+none_some e = let z : ◌≡◌ {A = ℕ} 0 1 = cc in omega arith
 
 pub fires : {b : Bool} {r : Refusal} (later : Verdict) → b ≡ true → Refused r ≡ refuse b r later
 unfolding refuse
@@ -26,11 +33,38 @@ pub passes : {b : Bool} (r : Refusal) {v later : Verdict} → b ≡ false → v 
 unfolding refuse
 passes r e h = rw e h
 
+-- ---- the same for a search, which fires where it finds a cell
+-- what is found is the first, and one of those searched ..
+pub found_first : {m first x : ℕ} → found m first ≡ Some x → (x ≡ first) × (x < m)
+found_first {m} {first} e =
+    by_lt first m
+    (λ lt. let same : first ≡ _ = some_same (sym (found_some m first lt) ∙ e) in (sym same, omega arith))
+    (λ le. absurd (none_some (sym (found_none m first le) ∙ e)))
+
+-- .. so the search fires, with the cell that is found, ..
+pub fires_found : (m first : ℕ) {x : ℕ} (r : ℕ → Refusal) (later : Verdict) → found m first ≡ Some x → Refused (r x) ≡ refuse (some_cell m first) (r first) later
+fires_found m first r later e =
+    let is = found_first e in
+    rw is.0 (fires later (lt-ltb first m (omega (arith, is.0, is.1))))
+
+-- .. and passes where nothing is found
+pub passes_found : (m first : ℕ) (r : Refusal) {v later : Verdict} → found m first ≡ None → v ≡ later → v ≡ refuse (some_cell m first) r later
+passes_found m first r e h =
+    by_lt first m
+    (λ lt. absurd (none_some (sym e ∙ found_some m first lt)))
+    (λ le. passes r (le-ltb first m le) h)
+
 -- ---- a chain of refusals by their names says in numbers what the chain of their numbers and places says
 pub in_numbers : (b : Bool) (r : Refusal) (later : Verdict) {rest : Notice} → notice_of later ≡ rest → notice_of (refuse b r later) ≡ check b (refusal_number r) (refusal_place r) rest
 unfolding refuse check
 in_numbers true r later e = refl
 in_numbers false r later e = e
+
+-- ---- what `?` hands on
+-- the refusal of the call, as the answer of the caller
+pub raised : {A : Type 0} (answer : Result A Refusal) {r : Refusal} → IsErrAnd answer (λ x. x ≡ r) → answer ≡ Err r
+raised (Ok _) h = absurd h
+raised (Err x) h = ap Err h
 
 -- ---- one check read backwards
 pub never : {r : Refusal} → Refused r ≡ Accepted → ⊥
@@ -56,8 +90,8 @@ then_goes is e q = rw (sym is ∙ e) q
 -- an accepted call has passed the first ones, and the later ones
 pub then_passed : (first later : Verdict) → then first later ≡ Accepted → (first ≡ Accepted) × (later ≡ Accepted)
 unfolding then
-then_passed Accepted later e = (refl, e)
-then_passed (Refused r) later e = absurd (never e)
+then_passed (Ok _) later e = (refl, e)
+then_passed (Err r) later e = absurd (never e)
 
 -- a check of the first group, in numbers
 pub group_in_numbers : (b : Bool) (r : Refusal) (first later : Verdict) {rest : Notice} → notice_of (then first later) ≡ rest →
@@ -74,8 +108,8 @@ group_ends later e = e
 -- .. and a group of groups
 pub group_inside : (a b c : Verdict) {rest : Notice} → notice_of (then a (then b c)) ≡ rest → notice_of (then (then a b) c) ≡ rest
 unfolding then
-group_inside Accepted b c e = e
-group_inside (Refused r) b c e = e
+group_inside (Ok _) b c e = e
+group_inside (Err r) b c e = e
 
 -- two checks that give one refusal are one
 pub either : (a b : Bool) (number place : ℕ) (later : Notice) → check a number place (check b number place later) ≡ check (a || b) number place later
@@ -96,12 +130,8 @@ module _ {v due : Verdict} {numbers : Notice} (is : v ≡ due) (told : notice_of
 -- two calls that keep one promise of the same input, which says what is held after an acceptance, give one verdict and leave the same
 pub promise_same : {S : Type 0} (v₁ : Verdict) {v₂ due : Verdict} {numbers : Notice} {before after₁ after₂ done : S} →
     Promise v₁ due numbers before after₁ (after₁ ≡ done) → Promise v₂ due numbers before after₂ (after₂ ≡ done) → (v₁ ≡ v₂) × (after₁ ≡ after₂)
-promise_same Accepted c d = let e = c.answer ∙ sym d.answer in (e, c.accepted refl ∙ sym (d.accepted (sym e)))
-promise_same (Refused x) c d = let e = c.answer ∙ sym d.answer in (e, c.refused x refl ∙ sym (d.refused x (sym e)))
-
--- ---- a number and its range
-pub too_low : (low high x : ℕ) → x < low → outside low high x ≡ true
-too_low low high x h = simp (lt-ltb x low h)
+promise_same (Ok _) c d = let e = c.answer ∙ sym d.answer in (e, c.accepted refl ∙ sym (d.accepted (sym e)))
+promise_same (Err x) c d = let e = c.answer ∙ sym d.answer in (e, c.refused x refl ∙ sym (d.refused x (sym e)))
 
 -- ---- one of several tests
 pub first_of : (a b : Bool) → a ≡ true → (a || b) ≡ true

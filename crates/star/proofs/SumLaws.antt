@@ -11,9 +11,7 @@ use Rattle.sums.specs.Tables.{cell}
 use Rattle.sums.proofs.Sums.{sum_none, sum_more, sum_most, sum_done}
 use Rattle.sums.proofs.Cases.{by_eq, by_lt}
 use Rattle.sums.proofs.Tables.{cell_lt}
-use Rattle.sums.proofs.Fills.{set_more}
 use Rattle.star.specs.Tables.{Demands}
-use Rattle.star.specs.Lines.{line_sum}
 use Rattle.star.specs.LineSums.{Summed, Unsummed, SummedTo}
 use Rattle.star.proofs.LineLaws.{column_sum}
 
@@ -31,15 +29,7 @@ pub column_most : {n : ℕ} {d sums : List ℕ} {i j : ℕ} → Demands n d → 
 column_most {n = n} {d = d} {i = i} {j = j} h hi hj g =
     omega (arith, g.ahead j (omega arith) hj, sum_most i 65535 (λ u. cell n d u j) (λ u lt. cell_most n d u j h (omega arith) hj))
 
--- one column more is cleared
-pub unsummed_more : {n : ℕ} {sums : List ℕ} {j : ℕ} → Unsummed n sums j → j < n → 2 * n ≤ length sums → Unsummed n (set sums (n + j) 0) (j + 1)
-unsummed_more {n = n} {sums = sums} {j = j} g hj room = record {
-  columns = λ v lt.
-      by_eq v j
-      (λ q. rw q (get_or-set_same sums (n + j) 0 0 (omega arith)))
-      (λ ne. get_or-set_other sums (n + j) (n + v) 0 0 (λ q. ne (omega arith)) ∙ g.columns v (omega arith));
-}
-
+-- no column has a sum yet
 pub summed_none : {n : ℕ} (d : List ℕ) {sums : List ℕ} → Unsummed n sums n → SummedTo n d sums 0 0
 summed_none {n = n} d g = record {
   rows = λ u lt. absurd (omega arith);
@@ -60,15 +50,6 @@ summed_cell {n = n} {d = d} {sums = sums} {i = i} {j = j} x g hi hj room e =
           (λ ne. get_or-set_other sums (n + j) (n + v) y 0 (λ q. ne (omega arith)) ∙ g.passed v (omega arith));
       ahead = λ v le lt. get_or-set_other sums (n + j) (n + v) y 0 (λ q. omega arith) ∙ g.ahead v (omega arith) lt;
     }
-
--- one row more
-pub summed_row : {n : ℕ} {d sums : List ℕ} {i : ℕ} (x : ℕ) → SummedTo n d sums i n → i < n → 2 * n ≤ length sums → x ≡ line_sum n d i
-    → SummedTo n d (set sums i x) (i + 1) 0
-summed_row {n = n} {d = d} {sums = sums} {i = i} x g hi room e = record {
-  rows = set_more (line_sum n d) sums i x (omega arith) e g.rows;
-  passed = λ v lt. absurd (omega arith);
-  ahead = λ v le lt. get_or-set_other sums i (n + v) x 0 (λ q. omega arith) ∙ g.passed v lt;
-}
 
 -- all rows
 pub summed_all : {n : ℕ} {d sums : List ℕ} {i : ℕ} → SummedTo n d sums i 0 → i ≡ n → Summed n d sums

@@ -1,10 +1,8 @@
 -- Checks by the names of their refusals: how they follow each other, and the groups that entries share, each by itself; Accepted where none fires.
-use Rattle.std.specs.Prelude.{ℕ, ◌*◌, Bool, true, false, List}
+use Rattle.std.specs.Prelude.{ℕ, ◌*◌, Bool, true, false, List, Ok, Err}
 use Rattle.star.specs.declared.refusals.Refusal.{Refusal}
 use Rattle.star.specs.declared.refusals.Refusal.TheVariants.{Nodes, Slots, Rule, DemandShort, DemandAbove, QueueLimit}
-use Rattle.star.specs.declared.refusals.Verdict.{Verdict}
-use Rattle.star.specs.declared.refusals.Verdict.TheVariants.{Accepted, Refused}
-use Rattle.star.specs.Refusals.{nodes_out, slots_out, rule_out, limit_out, short, some_cell, first_above}
+use Rattle.star.specs.Refusals.{Verdict, Accepted, Refused, nodes_out, slots_out, rule_out, limit_out, short, some_cell, first_above}
 
 -- The first that fires is given, by its name. A chain of names says what the chain of numbers says, since a name has its number and its place
 -- (`in_numbers` in proofs/RefusalLaws.antt).
@@ -14,8 +12,8 @@ refuse false r later = later
 
 -- Groups of checks after each other: the later ones are made where the first ones have passed.
 unfoldable pub then : (first later : Verdict) → Verdict
-then Accepted later = later
-then (Refused r) later = Refused r
+then (Ok _) later = later
+then (Err r) later = Refused r
 
 -- 1, 2
 unfoldable pub sizes_verdict : (n l : ℕ) → Verdict

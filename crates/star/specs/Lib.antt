@@ -1,4 +1,4 @@
--- Document 01's words: tables, lines and slacks, refusals, schedules; and the sums of all lines, and what is searched in a row.
+-- Document 01's words: tables, lines and slacks, refusals, rules, schedules; and the sums of all lines, and what is searched in a row.
 
 pub mod Tables
 pub mod Rooms
@@ -7,4 +7,5 @@ pub mod LineSums
 pub mod Refusals
 pub mod RowSearches
 pub mod Checks
+pub mod Rules
 pub mod Schedules

@@ -1,10 +1,8 @@
 -- What is refused: each refusal's number and place, and when it fires.
-use Rattle.std.specs.Prelude.{ℕ, ◌*◌, ◌≤◌, ◌≡◌, Bool, true, false, ◌||◌, List, get_or, ltb, leb}
+use Rattle.std.specs.Prelude.{ℕ, ◌*◌, ◌≤◌, ◌≡◌, Bool, true, false, ◌||◌, List, get_or, ltb, leb, Result, Ok, Err}
 use Rattle.sums.specs.Searches.{first_below}
 use Rattle.star.specs.declared.refusals.Refusal.{Refusal}
 use Rattle.star.specs.declared.refusals.Refusal.TheVariants.{Nodes, Slots, Rule, DemandShort, TableShort, DemandAbove, QueueLimit, BooksDisagree, CallsSpent, BadFile}
-use Rattle.star.specs.declared.refusals.Verdict.{Verdict}
-use Rattle.star.specs.declared.refusals.Verdict.TheVariants.{Accepted, Refused}
 
 -- what is given: a number and a place of the table
 pub record Notice : Type 0 where
@@ -37,9 +35,24 @@ refusal_place r = (refusal_notice r).place
 abbrev pub accepted : Notice
 accepted = notice 0 0
 
+-- What a call that reports nothing else answers: it is accepted, or refused with a refusal.
+abbrev pub Verdict : Type 0
+Verdict = Result (Unit {0}) Refusal
+
+abbrev pub Accepted : Verdict
+Accepted = Ok tt
+
+abbrev pub Refused : Refusal → Verdict
+Refused r = Err r
+
+-- the verdict of an answer, whatever an accepted call answers
+abbrev pub verdict_of : {A : Type 0} → Result A Refusal → Verdict
+verdict_of (Ok _) = Accepted
+verdict_of (Err r) = Refused r
+
 abbrev pub notice_of : Verdict → Notice
-notice_of Accepted = accepted
-notice_of (Refused r) = refusal_notice r
+notice_of (Ok _) = accepted
+notice_of (Err r) = refusal_notice r
 
 abbrev pub verdict_number : Verdict → ℕ
 verdict_number v = (notice_of v).number

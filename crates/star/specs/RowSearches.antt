@@ -7,6 +7,10 @@ use Rattle.sums.specs.Tables.{cell}
 unfoldable pub above_to : (n : ℕ) (d : List ℕ) (i m : ℕ) → ℕ
 above_to n d i m = sum_to m (λ j. bit (ltb 65535 (cell n d i j)))
 
+-- no demand of row i is above 65,535
+abbrev pub RowWithin : (n : ℕ) (d : List ℕ) (i : ℕ) → Type 0
+RowWithin n d i = (v : ℕ) → v < n → cell n d i v ≤ 65535
+
 -- the first demand of row i above 65,535 is that of destination j
 pub record FirstInRow (n : ℕ) (d : List ℕ) (i j : ℕ) : Type 0 where
   pub inside : j < n

@@ -1,9 +1,9 @@
-// What is refused, and what a call answers.
+// What is refused, and what a call answers: a Result with one of these refusals.
 ghost use Rattle.std.specs.Prelude.{◌≡◌};
-ghost use Rattle.star.specs.Refusals.{verdict_number, verdict_place};
+ghost use Rattle.star.specs.Refusals.{refusal_number, refusal_place, verdict_of, verdict_number, verdict_place};
 
 // The refusals of documents 01 and 02, in the order of their numbers.
-#[derive(Clone, Copy)]
+#[derive(Clone, Copy, Debug, PartialEq, Eq)]
 pub enum Refusal {
     Nodes,
     Slots,
@@ -17,20 +17,12 @@ pub enum Refusal {
     BadFile { entry: u32 },
 }
 
-// What a call that reports no totals answers.
-#[derive(Clone, Copy)]
-pub enum Verdict {
-    Accepted,
-    Refused { refusal: Refusal },
-}
-
-// The number that the documents give a verdict: 0 for an accepted call.
-pub fn number(v: Verdict) -> u32
-    ensures { result ≡ verdict_number v }
-{
-    match v {
-        Verdict::Accepted => 0,
-        Verdict::Refused { refusal } => match refusal {
+impl Refusal {
+    // The number that the documents give a refusal.
+    pub fn number(self) -> u32
+        ensures { result ≡ refusal_number self }
+    {
+        match self {
             Refusal::Nodes => 1,
             Refusal::Slots => 2,
             Refusal::Rule => 3,
@@ -41,27 +33,38 @@ pub fn number(v: Verdict) -> u32
             Refusal::BooksDisagree { cell: _ } => 8,
             Refusal::CallsSpent => 9,
             Refusal::BadFile { entry: _ } => 10,
-        },
+        }
+    }
+
+    // The place that the documents give a refusal: the cell for two of them, the entry for a file, else 0.
+    pub fn place(self) -> u32
+        ensures { result ≡ refusal_place self }
+    {
+        match self {
+            Refusal::DemandAbove { cell } => cell,
+            Refusal::BooksDisagree { cell } => cell,
+            Refusal::BadFile { entry } => entry,
+            _ => 0,
+        }
     }
 }
 
-// The place that the documents give a verdict: the cell for two of the refusals, the entry for a file, else 0.
-pub fn place(v: Verdict) -> u32
-    ensures { result ≡ verdict_place v }
+// The number of an answer: its refusal's, and 0 for an accepted call.
+pub fn number<T>(answer: &Result<T, Refusal>) -> u32
+    ensures { result ≡ verdict_number (verdict_of answer.now) }
 {
-    match v {
-        Verdict::Accepted => 0,
-        Verdict::Refused { refusal } => match refusal {
-            Refusal::Nodes => 0,
-            Refusal::Slots => 0,
-            Refusal::Rule => 0,
-            Refusal::DemandShort => 0,
-            Refusal::TableShort => 0,
-            Refusal::DemandAbove { cell } => cell,
-            Refusal::QueueLimit => 0,
-            Refusal::BooksDisagree { cell } => cell,
-            Refusal::CallsSpent => 0,
-            Refusal::BadFile { entry } => entry,
-        },
+    match answer {
+        Ok(_) => 0,
+        Err(refusal) => refusal.number(),
+    }
+}
+
+// The place of an answer: its refusal's, and 0 for an accepted call.
+pub fn place<T>(answer: &Result<T, Refusal>) -> u32
+    ensures { result ≡ verdict_place (verdict_of answer.now) }
+{
+    match answer {
+        Ok(_) => 0,
+        Err(refusal) => refusal.place(),
     }
 }

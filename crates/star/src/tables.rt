@@ -1,4 +1,5 @@
-// Cells of a square table of 32-bit numbers; tables written from the front.
+// Cells of a square table of 32-bit numbers; tables written from the front. A table and its N are two parameters throughout: of a struct of both there would be
+// two, one that borrows to read and one to write, and each contract on the latter would have to say that it still borrows the same cells.
 ghost use Rattle.std.specs.Prelude.{◌≡◌, ◌+◌, ◌*◌, ◌<◌, ◌≤◌, length, get_or, set, replicate};
 ghost use Rattle.sums.specs.Tables.{cell, tab, written};
 ghost use Rattle.star.specs.Rooms.{Square};
@@ -22,16 +23,12 @@ pub fn put(n: usize, table: &mut [u32], i: usize, j: usize, x: u32)
 }
 
 // Every pair has 0 from now on.
+// Apart from `clear` of books: tried over a type parameter, where `fill` asks for a clone that cannot fail, and no bound proves it.
 pub fn clear(n: usize, table: &mut [u32])
     requires { Square n table.old }
     ensures { table.new ≡ written (n * n) (replicate (n * n) 0) table.old }
 {
-    let cells = n * n;
-    let mut p = 0;
-    while p < cells {
-        table[p] = 0;
-        p += 1;
-    }
+    table[..n * n].fill(0);
 }
 
 // The first cells of a table are those of another from now on.
@@ -39,9 +36,5 @@ pub fn copy(from: &[u32], to: &mut [u32], cells: usize)
     requires { (cells ≤ length from.now) × (cells ≤ length to.old) }
     ensures { to.new ≡ written cells (tab cells (λ p. get_or from.now p 0)) to.old }
 {
-    let mut p = 0;
-    while p < cells {
-        to[p] = from[p];
-        p += 1;
-    }
+    to[..cells].copy_from_slice(&from[..cells]);
 }

@@ -5,7 +5,9 @@ use native.Mathlib.Omega.{arith}
 use native.Mathlib.Nat.{zero-add}
 use mathlib.Core.Path.{◌≡◌, refl, sym, ◌∙◌, ap}
 use mathlib.Core.Bool.{Bool, true, false, ◌||◌, ◌&&◌}
-use Rattle.sums.specs.Searches.{first_from, first_below, some_below}
+use borrow.Author.Tests.{lt-ltb, le-ltb}
+use Rattle.std.specs.Prelude.{Some, None}
+use Rattle.sums.specs.Searches.{first_from, first_below, some_below, found}
 use Rattle.sums.proofs.Cases.{by_eq}
 
 module _ (test : ℕ → Bool) where
@@ -113,3 +115,12 @@ all_at (suc n) test e i h =
     by_eq i n
     (λ s. ap test s ∙ both_first (test n) (all_below n test) e)
     (λ s. all_at n test (both_second (test n) (all_below n test) e) i (omega arith))
+
+-- The answer where a number was found, and where none was.
+pub found_some : (m first : ℕ) → first < m → found m first ≡ Some first
+unfolding found
+found_some m first lt = rw (lt-ltb first m lt, found)
+
+pub found_none : (m first : ℕ) → m ≤ first → found m first ≡ None
+unfolding found
+found_none m first le = rw (le-ltb first m le, found)

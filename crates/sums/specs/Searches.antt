@@ -1,5 +1,5 @@
 -- Searches over a range, by a test.
-use Rattle.std.specs.Prelude.{ℕ, zero, suc, Bool, true, false, ◌||◌}
+use Rattle.std.specs.Prelude.{ℕ, zero, suc, Bool, true, false, ◌||◌, ltb, Option, Some, None}
 
 -- the first of k, .., k + left - 1 at which the test holds, or k + left
 unfoldable pub first_from : ℕ → ℕ → (ℕ → Bool) → ℕ
@@ -14,3 +14,7 @@ first_below m test = first_from m 0 test
 unfoldable pub some_below : ℕ → (ℕ → Bool) → Bool
 some_below zero test = false
 some_below (suc m) test = some_below m test || test m
+
+-- what a search among m numbers answers, given the first that is found, or m: that number, or none
+unfoldable pub found : (m first : ℕ) → Option ℕ
+found m first = elim (ltb first m) [ true ↦ Some first | false ↦ None ]

@@ -5,23 +5,13 @@ use native.Mathlib.Omega.{arith}
 use mathlib.Core.Path.{◌≡◌, refl, sym, ◌∙◌, ap}
 use mathlib.Core.Bool.{true, false, false≢true}
 use mathlib.Core.List.{List}
-use lib.ListN.{length, get_or, set, length-set}
+use lib.ListN.{length, get_or, set}
 use lib.Seq.{get_or-set_same, get_or-set_other}
 use Rattle.sums.proofs.Cases.{by_eq}
-use Rattle.nodes.specs.Sets.{member, Both, First}
-use Rattle.nodes.proofs.SetLaws.{both_in, both_left, both_right}
+use Rattle.nodes.specs.Sets.{member}
 use Rattle.layers.specs.Layers.{Layered}
 use Rattle.walks.specs.Paths.{weight, FirstInBoth, LeftLayer, Thinned, CanClimb, Climbed}
-use Rattle.walks.proofs.Thinning.{left_else, left_len, row_leaves, column_leaves, thinned_none, thinned_row, thinned_column, thinned_weight, thinned_apart}
-
--- the first node of what two sets have in common
-pub meeting_law : {s t b f : ℕ} → Both s t b → First b f → FirstInBoth s t f
-meeting_law B F = record {
-  within = F.within;
-  one = λ lt. both_left B _ (F.found lt);
-  other = λ lt. both_right B _ (F.found lt);
-  before = λ j lt p q. omega (arith, both_in B j p q, F.before j lt);
-}
+use Rattle.walks.proofs.Thinning.{row_leaves, column_leaves, thinned_row, thinned_column, thinned_weight, thinned_apart}
 
 -- columns of the path are known from layer k on, its rows from layer h on
 pub record Climbing (n : ℕ) (offers takers columns at to : List ℕ) (e last k h : ℕ) : Type 0 where
@@ -87,113 +77,56 @@ module _ {n : ℕ} {offers takers columns at to : List ℕ} {e last k : ℕ} whe
   }
 
 -- ---- the whole climb: the layers are thinned, and where each node was reached from the layer before they are not
-pub record Climb (n : ℕ) (offers takers rows₀ columns₀ at₀ to₀ rows columns at to : List ℕ) (e last k : ℕ) : Type 0 where
+pub record Climb (n : ℕ) (offers takers rows₀ columns₀ rows columns at to : List ℕ) (e last k : ℕ) : Type 0 where
   pub climbing : Climbing n offers takers columns at to e last k (k + 1)
   pub thinned : Thinned rows₀ columns₀ rows columns
   pub fresh : Layered n offers takers rows₀ columns₀ last → (rows ≡ rows₀) × (columns ≡ columns₀)
-  pub rows_len : length rows ≡ length rows₀
-  pub columns_len : length columns ≡ length columns₀
-  pub at_len : length at ≡ length at₀
-  pub to_len : length to ≡ length to₀
 
--- another list of the same length for the columns of the path
-pub climb_lists : {n : ℕ} {offers takers rows columns at to to' : List ℕ} {e last : ℕ} → CanClimb n offers takers rows columns at to e last → length to' ≡ length to → CanClimb n offers takers rows columns at to' e last
-climb_lists P len = record {
-  offers_room = P.offers_room;
-  takers_room = P.takers_room;
-  lists = record { layers = P.lists.layers; ats = P.lists.ats; tos = omega (arith, P.lists.tos); few = P.lists.few };
-  apart = P.apart;
-  column = P.column;
-  in' = P.in';
-}
-
-pub climb_start : {n : ℕ} {offers takers rows columns at to : List ℕ} {e last : ℕ} → CanClimb n offers takers rows columns at to e last → Climb n offers takers rows columns at (set to last e) rows columns at (set to last e) e last last
-climb_start {rows = rows} {columns = columns} {to = to} {e = e} {last = last} P =
-    let fits : last < length to = omega (arith, P.lists.tos, P.lists.few) in
-    let top = get_or-set_same to last e 0 fits in
-    record {
-      climbing = record {
-        upto = omega arith;
-        end' = top;
-        column = λ m q r. let z : m ≡ last = omega arith in rw (z, top) P.column;
-        on = λ m q r. let z : m ≡ last = omega arith in rw (z, top) P.in';
-        row = λ m q r. absurd (omega arith);
-        more = λ m q r. absurd (omega arith);
-        less = λ m q r. absurd (omega arith);
-      };
-      thinned = thinned_none rows columns;
-      fresh = λ L. (refl, refl);
-      rows_len = refl;
-      columns_len = refl;
-      at_len = refl;
-      to_len = refl;
-    }
-
-module _ {n : ℕ} {offers takers rows₀ columns₀ at₀ to₀ rows columns at to : List ℕ} {e last k : ℕ} (P : CanClimb n offers takers rows₀ columns₀ at₀ to₀ e last) (C : Climb n offers takers rows₀ columns₀ at₀ to₀ rows columns at to e last k) where
-  -- the layers and the path have a place for layer k
-  few : k ≤ n
-  few = omega (arith, P.lists.few, C.climbing.upto)
-
-  pub fits_rows : k < length rows
-  fits_rows = omega (arith, few, P.lists.layers.layers, C.rows_len)
-
-  pub fits_columns : k < length columns
-  fits_columns = omega (arith, few, P.lists.layers.others, C.columns_len)
-
-  pub fits_at : k < length at
-  fits_at = omega (arith, few, P.lists.ats, C.at_len)
-
-  pub fits_to : k < length to
-  fits_to = omega (arith, few, P.lists.tos, C.to_len)
-
+module _ {n : ℕ} {offers takers rows₀ columns₀ rows columns at to : List ℕ} {e last k : ℕ} (P : CanClimb n columns₀ e last) (C : Climb n offers takers rows₀ columns₀ rows columns at to e last k) where
   pub here : get_or to k 0 < n
   here = C.climbing.column k (omega arith) C.climbing.upto
 
   on_layer : member (get_or to k 0) (get_or columns k 0) ≡ 1
   on_layer = C.climbing.on k (omega arith) C.climbing.upto
 
-  module _ {i : ℕ} (F : FirstInBoth (get_or offers (get_or to k 0) 0) (get_or rows k 0) i) where
+  -- i is the first row of the layer that can give more to column j, which the path comes to
+  module _ {j i : ℕ} (J : j ≡ get_or to k 0) (F : FirstInBoth (get_or offers j 0) (get_or rows k 0) i) where
+    met : FirstInBoth (get_or offers (get_or to k 0) 0) (get_or rows k 0) i
+    met = rw J at F
+
     -- ---- a column without a row
-    module _ (none : n ≤ i) {columns' : List ℕ} (G : LeftLayer columns columns' k (get_or to k 0)) where
+    module _ (fits : k < length columns) (none : n ≤ i) {columns' : List ℕ} (G : LeftLayer columns columns' k j) where
+      left : LeftLayer columns columns' k (get_or to k 0)
+      left = rw J at G
+
       no_row : Layered n offers takers rows₀ columns₀ last → ⊥
       no_row L =
           let s = C.fresh L in
           let on : member (get_or to k 0) (get_or columns₀ k 0) ≡ 1 = rw s.1 at on_layer in
           let m = L.column k (get_or to k 0) C.climbing.upto here on in
           let other : member m.node (get_or rows k 0) ≡ 1 = ap (λ z. member m.node (get_or z k 0)) s.0 ∙ m.other in
-          F.before m.node (omega (arith, m.within)) m.one other
+          met.before m.node (omega (arith, m.within)) m.one other
 
       pub column_falls : weight n rows columns' last < weight n rows columns last
-      column_falls = column_leaves n rows C.climbing.upto here fits_columns on_layer G
+      column_falls = column_leaves n rows C.climbing.upto here fits on_layer left
 
       pub climb_none : Climbed n offers takers rows₀ columns₀ rows columns' at to e last false
       climb_none = record {
         path = λ t. absurd (false≢true t);
         follows = λ t. absurd (false≢true t);
         start = λ t. absurd (false≢true t);
-        thinned = thinned_column C.thinned fits_columns G;
+        thinned = thinned_column C.thinned fits left;
         falls = λ t. omega (arith, column_falls, thinned_weight C.thinned n last);
         sure = λ L. absurd (no_row L);
       }
 
-      pub climb_down : k < last → Climb n offers takers rows₀ columns₀ at₀ to₀ rows columns' at to e last (k + 1)
-      climb_down lt = record {
-        climbing = climb_back C.climbing lt (left_else fits_columns G);
-        thinned = thinned_column C.thinned fits_columns G;
-        fresh = λ L. absurd (no_row L);
-        rows_len = C.rows_len;
-        columns_len = left_len fits_columns G ∙ C.columns_len;
-        at_len = C.at_len;
-        to_len = C.to_len;
-      }
-
     -- ---- a row of the layer
-    module _ (lt : i < n) where
+    module _ (fits : k < length at) (lt : i < n) where
       rowed : Climbing n offers takers columns (set at k i) to e last k k
-      rowed = climb_row C.climbing i fits_at lt (F.one (omega (arith, P.lists.layers.nodes)))
+      rowed = climb_row C.climbing i fits lt (met.one (omega (arith, P.nodes)))
 
       in_layer : member i (get_or rows k 0) ≡ 1
-      in_layer = F.other (omega (arith, P.lists.layers.nodes))
+      in_layer = met.other (omega (arith, P.nodes))
 
       -- the first layer's
       pub climb_end : k ≡ 0 → Climbed n offers takers rows₀ columns₀ rows columns (set at k i) to e last true
@@ -210,7 +143,7 @@ module _ {n : ℕ} {offers takers rows₀ columns₀ at₀ to₀ rows columns at
             };
             follows = λ t. record { more = λ m r. rowed.more m (omega arith) r; less = λ m r. rowed.less m (omega arith) r };
             start = λ t.
-                let s : get_or (set at k i) 0 0 ≡ i = ap (λ u. get_or (set at k i) u 0) (sym z) ∙ get_or-set_same at k i 0 fits_at in
+                let s : get_or (set at k i) 0 0 ≡ i = ap (λ u. get_or (set at k i) u 0) (sym z) ∙ get_or-set_same at k i 0 fits in
                 let u : member i (get_or rows 0 0) ≡ 1 = rw z at in_layer in
                 rw s u;
             thinned = C.thinned;
@@ -220,7 +153,7 @@ module _ {n : ℕ} {offers takers rows₀ columns₀ at₀ to₀ rows columns at
 
       module _ {g : ℕ} (p : ℕ) (up : p + 1 ≡ k) (H : FirstInBoth (get_or takers i 0) (get_or columns p 0) g) where
         -- it takes from no column of the layer above
-        module _ (none : n ≤ g) {rows' : List ℕ} (G : LeftLayer rows rows' k i) where
+        module _ (fits' : k < length rows) (none : n ≤ g) {rows' : List ℕ} (G : LeftLayer rows rows' k i) where
           no_column : Layered n offers takers rows₀ columns₀ last → ⊥
           no_column L =
               let s = C.fresh L in
@@ -230,30 +163,22 @@ module _ {n : ℕ} {offers takers rows₀ columns₀ at₀ to₀ rows columns at
               H.before m.node (omega (arith, m.within)) m.one other
 
           pub row_falls : weight n rows' columns last < weight n rows columns last
-          row_falls = row_leaves n columns C.climbing.upto lt fits_rows in_layer G
+          row_falls = row_leaves n columns C.climbing.upto lt fits' in_layer G
 
-          pub climb_beside : Climb n offers takers rows₀ columns₀ at₀ to₀ rows' columns (set at k i) to e last k
+          pub climb_beside : Climb n offers takers rows₀ columns₀ rows' columns (set at k i) to e last k
           climb_beside = record {
             climbing = climb_again rowed;
-            thinned = thinned_row C.thinned fits_rows G;
+            thinned = thinned_row C.thinned fits' G;
             fresh = λ L. absurd (no_column L);
-            rows_len = left_len fits_rows G ∙ C.rows_len;
-            columns_len = C.columns_len;
-            at_len = length-set at k i ∙ C.at_len;
-            to_len = C.to_len;
           }
 
         -- it takes from one
-        pub climb_up : g < n → Climb n offers takers rows₀ columns₀ at₀ to₀ rows columns (set at k i) (set to p g) e last p
-        climb_up lt' =
-            let few' = P.lists.layers.nodes in
-            let s : get_or (set at k i) k 0 ≡ i = get_or-set_same at k i 0 fits_at in
+        pub climb_up : p < length to → g < n → Climb n offers takers rows₀ columns₀ rows columns (set at k i) (set to p g) e last p
+        climb_up fits' lt' =
+            let few' = P.nodes in
+            let s : get_or (set at k i) k 0 ≡ i = get_or-set_same at k i 0 fits in
             record {
-              climbing = climb_column rowed p g up (omega (arith, fits_to)) lt' (H.other (omega arith)) (rw s (H.one (omega arith)));
+              climbing = climb_column rowed p g up fits' lt' (H.other (omega arith)) (rw s (H.one (omega arith)));
               thinned = C.thinned;
               fresh = C.fresh;
-              rows_len = C.rows_len;
-              columns_len = C.columns_len;
-              at_len = length-set at k i ∙ C.at_len;
-              to_len = length-set to p g ∙ C.to_len;
             }

@@ -3,7 +3,7 @@ use Prim.Native.Nat.{ℕ, ◌+◌, ◌≤◌, ◌<◌}
 use native.Mathlib.Omega.{arith}
 use mathlib.Core.Path.{◌≡◌, sym, ◌∙◌, ap}
 use mathlib.Core.List.{List}
-use lib.ListN.{length, get_or, length-set}
+use lib.ListN.{length, get_or}
 use lib.Seq.{get_or-set_same, get_or-set_other}
 use Rattle.sums.proofs.Cases.{by_eq}
 use Rattle.sums.proofs.Sums.{sum_mono, sum_update}
@@ -35,9 +35,6 @@ module _ {layers layers' : List ℕ} {k i : ℕ} (fits : k < length layers) (L :
 
   pub left_gone : member i (get_or layers' k 0) ≡ 0
   left_gone = ap (member i) left_here ∙ L.without.here
-
-  pub left_len : length layers' ≡ length layers
-  left_len = ap length L.cells ∙ length-set layers k L.rest
 
   left_size : (n : ℕ) → i < n → member i (get_or layers k 0) ≡ 1 → size n (get_or layers' k 0) + 1 ≡ size n (get_or layers k 0)
   left_size n lt e = omega (arith, ap (size n) left_here, size_without n (get_or layers k 0) L.rest i lt e L.without)

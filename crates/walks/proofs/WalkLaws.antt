@@ -2,68 +2,29 @@
 -- layers fall. Assumes nothing.
 use Prim.Native.Nat.{ℕ, ◌+◌, ◌-◌, ◌*◌, ◌≤◌, ◌<◌}
 use native.Mathlib.Omega.{arith}
-use mathlib.Core.Path.{◌≡◌, refl, sym, ◌∙◌}
+use mathlib.Core.Path.{◌≡◌, sym, ◌∙◌}
 use mathlib.Core.Bool.{Bool, true, false, false≢true}
-use mathlib.Core.Logic.{◌⊎◌, ⊎_elim, inl, inr}
+use mathlib.Core.Logic.{◌⊎◌, ⊎_elim, inl}
 use mathlib.Core.List.{List}
-use lib.ListN.{length, get_or, set, length-set}
+use lib.ListN.{length, get_or, set}
 use lib.Seq.{get_or-set_other}
 use Rattle.sums.proofs.Cases.{by_eq}
 use Rattle.nodes.specs.Sets.{member, First}
-use Rattle.nodes.proofs.SetLaws.{first_none}
 use Rattle.growth.specs.Growth.{SpansKept, row_headroom}
 use Rattle.growth.specs.Sides.{Sides}
 use Rattle.growth.proofs.Keeping.{kept_none, kept_join, kept_spent, spent_falls}
 use Rattle.layers.specs.Layers.{Layered, Apart, Meets}
-use Rattle.walks.specs.Paths.{LeftLayer, Thinned, weight, PathLists, CanClimb, Climbed, Passable, Bottleneck, CanSend, Sent}
-use Rattle.walks.specs.Walks.{OpenEnds, LeftIfNone, CanSpend, Spent, CanDrain, Drained}
-use Rattle.walks.proofs.Thinning.{left_had, left_gone, thinned_join, thinned_weight, thinned_apart}
+use Rattle.walks.specs.Paths.{Thinned, weight, Climbed, Passable, Bottleneck, CanSend, Sent}
+use Rattle.walks.specs.Walks.{OpenEnds, CanSpend, Spent}
+use Rattle.walks.proofs.Thinning.{thinned_join, thinned_weight, thinned_apart}
 use Rattle.walks.proofs.Sends.{follows_passes}
-
--- ---- who has no headroom left leaves
-pub left_stays : {layers : List ℕ} {k i left : ℕ} → 0 < left → LeftIfNone layers layers k i left
-left_stays some = record { none = λ z. absurd (omega arith); others = λ m j e. e }
-
-pub left_leaves : {layers layers' : List ℕ} {k i left : ℕ} → k < length layers → LeftLayer layers layers' k i → LeftIfNone layers layers' k i left
-left_leaves fits L = record { none = λ z. left_gone fits L; others = left_had fits L }
-
--- x is taken from the headroom of row i and column j
-module _ {n i j last x : ℕ} {headroom rows columns : List ℕ} (C : CanSpend n headroom rows columns i j last x) where
-  -- the column's place in what the row leaves
-  rest_len : length (set headroom i (get_or headroom i 0 - x)) ≡ length headroom
-  rest_len = length-set headroom i (get_or headroom i 0 - x)
-
-  pub rest_fits : n + j < length (set headroom i (get_or headroom i 0 - x))
-  rest_fits = omega (arith, rest_len, C.headrooms, C.column)
-
-  pub rest_most : x ≤ get_or (set headroom i (get_or headroom i 0 - x)) (n + j) 0
-  rest_most = omega (arith, C.ending, C.row, get_or-set_other headroom i (n + j) (get_or headroom i 0 - x) 0 (λ e. omega (arith, C.row)))
-
-  -- and both places in what is left of all
-  pub spent_len : length (set (set headroom i (get_or headroom i 0 - x)) (n + j) (get_or (set headroom i (get_or headroom i 0 - x)) (n + j) 0 - x)) ≡ length headroom
-  spent_len = length-set (set headroom i (get_or headroom i 0 - x)) (n + j) (get_or (set headroom i (get_or headroom i 0 - x)) (n + j) 0 - x) ∙ rest_len
-
-  pub spent_fits : {k : ℕ} → k < 2 * n → k < length (set (set headroom i (get_or headroom i 0 - x)) (n + j) (get_or (set headroom i (get_or headroom i 0 - x)) (n + j) 0 - x))
-  spent_fits lt = omega (arith, spent_len, C.headrooms)
-
-  pub spent_law : {rows' columns' : List ℕ} → LeftIfNone rows rows' 0 i (get_or (set (set headroom i (get_or headroom i 0 - x)) (n + j) (get_or (set headroom i (get_or headroom i 0 - x)) (n + j) 0 - x)) i 0) → LeftIfNone columns columns' last j (get_or (set (set headroom i (get_or headroom i 0 - x)) (n + j) (get_or (set headroom i (get_or headroom i 0 - x)) (n + j) 0 - x)) (n + j) 0) → Spent n headroom rows columns (set (set headroom i (get_or headroom i 0 - x)) (n + j) (get_or (set headroom i (get_or headroom i 0 - x)) (n + j) 0 - x)) rows' columns' i j last x
-  spent_law R D = record { cells = refl; thinned = record { row = R.others; column = D.others }; row = R.none; column = D.none }
-
--- ---- lists of the same lengths
-pub lists_again : {n last : ℕ} {rows columns at to rows' columns' at' to' : List ℕ} → PathLists n rows columns at to last → length rows' ≡ length rows → length columns' ≡ length columns → length at' ≡ length at → length to' ≡ length to → PathLists n rows' columns' at' to' last
-lists_again T lr lc la lt = record {
-  layers = record { nodes = T.layers.nodes; layers = omega (arith, T.layers.layers); others = omega (arith, T.layers.others) };
-  ats = omega (arith, T.ats);
-  tos = omega (arith, T.tos);
-  few = T.few;
-}
 
 -- ---- a walk
 thinned_open : {n last : ℕ} {headroom rows columns rows' columns' : List ℕ} → Thinned rows columns rows' columns' → OpenEnds n headroom rows columns last → OpenEnds n headroom rows' columns' last
 thinned_open {last = last} T R = record { starts = λ i p e. R.starts i p (T.row 0 i e); ends = λ j q e. R.ends j q (T.column last j e) }
 
 -- the headroom that is left is that of what is left
-spent_open : {n i j last x : ℕ} {headroom rows columns headroom' rows' columns' : List ℕ} → CanSpend n headroom rows columns i j last x → OpenEnds n headroom rows columns last → Spent n headroom rows columns headroom' rows' columns' i j last x → OpenEnds n headroom' rows' columns' last
+spent_open : {n i j last x : ℕ} {headroom rows columns headroom' rows' columns' : List ℕ} → CanSpend n headroom i j last x → OpenEnds n headroom rows columns last → Spent n headroom rows columns headroom' rows' columns' i j last x → OpenEnds n headroom' rows' columns' last
 spent_open {n} {i} {j} {last} {x} {headroom} {headroom' = headroom'} {rows' = rows'} {columns' = columns'} C R S =
     let rest = set headroom i (get_or headroom i 0 - x) in
     let y = get_or rest (n + j) 0 - x in
@@ -93,9 +54,9 @@ spent_open {n} {i} {j} {last} {x} {headroom} {headroom' = headroom'} {rows' = ro
     }
 
 -- a column of the last layer
-pub record CanWalk (n : ℕ) (bound a headroom offers takers rows columns at to : List ℕ) (e last : ℕ) : Type 0 where
+pub record CanWalk (n : ℕ) (bound a headroom offers takers rows columns : List ℕ) (e last : ℕ) : Type 0 where
   pub sides : Sides n bound a offers takers
-  pub lists : PathLists n rows columns at to last
+  pub few : last ≤ n
   pub headrooms : 2 * n ≤ length headroom
   pub apart : Apart n columns last
   pub open_ends : OpenEnds n headroom rows columns last
@@ -112,10 +73,7 @@ pub record Walked (n : ℕ) (bound a headroom offers takers rows columns a' head
   pub falls : row_headroom n headroom' + weight n rows' columns' last < row_headroom n headroom + weight n rows columns last
   pub first : Layered n offers takers rows columns last → row_headroom n headroom' < row_headroom n headroom
 
-pub walk_climb : {n : ℕ} {bound a headroom offers takers rows columns at to : List ℕ} {e last : ℕ} → CanWalk n bound a headroom offers takers rows columns at to e last → CanClimb n offers takers rows columns at to e last
-walk_climb P = record { offers_room = P.sides.columns; takers_room = P.sides.rows; lists = P.lists; apart = P.apart; column = P.column; in' = P.in' }
-
-module _ {n : ℕ} {bound a headroom offers takers rows columns rows' columns' at to at' to' : List ℕ} {e last : ℕ} {r : Bool} (P : CanWalk n bound a headroom offers takers rows columns at to e last) (C : Climbed n offers takers rows columns rows' columns' at' to' e last r) where
+module _ {n : ℕ} {bound a headroom offers takers rows columns rows' columns' at' to' : List ℕ} {e last : ℕ} {r : Bool} (P : CanWalk n bound a headroom offers takers rows columns e last) (C : Climbed n offers takers rows columns rows' columns' at' to' e last r) where
   pub walked_none : r ≡ false → Walked n bound a headroom offers takers rows columns a headroom offers takers rows' columns' last
   walked_none none = record {
     sides = P.sides;
@@ -127,7 +85,7 @@ module _ {n : ℕ} {bound a headroom offers takers rows columns rows' columns' a
     first = λ L. absurd (false≢true (sym none ∙ C.sure L));
   }
 
-  module _ (yes' : r ≡ true) (la : length at' ≡ length at) (lt : length to' ≡ length to) where
+  module _ (yes' : r ≡ true) where
     pub walk_passable : Passable n bound a headroom at' to' e last
     walk_passable =
         let path = C.path yes' in
@@ -138,8 +96,7 @@ module _ {n : ℕ} {bound a headroom offers takers rows columns rows' columns' a
           headrooms = P.headrooms;
           start = P.open_ends.starts (get_or at' 0 0) (path.row 0 (omega arith)) (C.thinned.row 0 (get_or at' 0 0) (C.start yes'));
           ending = P.open_ends.ends e P.column P.in';
-          ats = omega (arith, P.lists.ats, P.lists.few);
-          tos = omega (arith, P.lists.tos, P.lists.few);
+          few = omega (arith, P.few, P.sides.below.cells.nodes);
         }
 
     module _ {x : ℕ} (K : Bottleneck n bound a headroom at' to' e last x) where
@@ -149,24 +106,23 @@ module _ {n : ℕ} {bound a headroom offers takers rows columns rows' columns' a
         path = C.path yes';
         passes = K.passes;
         some = K.some;
-        ats = omega (arith, P.lists.ats, P.lists.few);
-        tos = omega (arith, P.lists.tos, P.lists.few);
+        few = omega (arith, P.few, P.sides.below.cells.nodes);
       }
 
-      pub walk_spend : length rows' ≡ length rows → length columns' ≡ length columns → CanSpend n headroom rows' columns' (get_or at' 0 0) e last x
-      walk_spend lr lc = record {
-        few = P.lists.layers.nodes;
+      pub walk_spend : CanSpend n headroom (get_or at' 0 0) e last x
+      walk_spend = record {
+        nodes = P.sides.below.cells.nodes;
+        few = omega (arith, P.few, P.sides.below.cells.nodes);
         row = (C.path yes').row 0 (omega arith);
         column = P.column;
         headrooms = P.headrooms;
         start = K.start;
         ending = K.ending;
-        layers = omega (arith, P.lists.layers.layers);
-        others = omega (arith, P.lists.layers.others, P.lists.few);
       }
 
-      pub walked_sent : {a' offers' takers' headroom' rows'' columns'' : List ℕ} → CanSpend n headroom rows' columns' (get_or at' 0 0) e last x → Sent n bound a a' offers' takers' at' e x → Spent n headroom rows' columns' headroom' rows'' columns'' (get_or at' 0 0) e last x → Walked n bound a headroom offers takers rows columns a' headroom' offers' takers' rows'' columns'' last
-      walked_sent {a'} {headroom' = headroom'} D S E =
+      pub walked_sent : {a' offers' takers' headroom' rows'' columns'' : List ℕ} → Sent n bound a a' offers' takers' at' e x → Spent n headroom rows' columns' headroom' rows'' columns'' (get_or at' 0 0) e last x → Walked n bound a headroom offers takers rows columns a' headroom' offers' takers' rows'' columns'' last
+      walked_sent {a'} {headroom' = headroom'} S E =
+          let D = walk_spend in
           let T = thinned_join C.thinned E.thinned in
           let less : row_headroom n headroom' + x ≡ row_headroom n headroom = rw E.cells (spent_falls n a headroom a' (get_or at' 0 0) e x D.row D.column D.headrooms D.start D.ending) in
           record {
@@ -181,41 +137,30 @@ module _ {n : ℕ} {bound a headroom offers takers rows columns rows' columns' a
 
 -- ---- walk after walk
 -- something has gone, or the layers are still those of a search
-pub record Draining (n : ℕ) (bound a₀ headroom₀ a headroom offers takers rows columns at to : List ℕ) (last : ℕ) : Type 0 where
+pub record Draining (n : ℕ) (bound a₀ headroom₀ a headroom offers takers rows columns : List ℕ) (last : ℕ) : Type 0 where
   pub sides : Sides n bound a offers takers
-  pub lists : PathLists n rows columns at to last
+  pub few : last ≤ n
   pub kept : SpansKept n a₀ headroom₀ a headroom
   pub apart : Apart n columns last
   pub open_ends : OpenEnds n headroom rows columns last
   pub begun : (row_headroom n headroom < row_headroom n headroom₀) ⊎ ((Layered n offers takers rows columns last) × (Meets n (get_or columns last 0) (get_or columns last 0)) × (row_headroom n headroom ≡ row_headroom n headroom₀))
 
-module _ {n : ℕ} {bound a headroom offers takers rows columns at to : List ℕ} {last : ℕ} where
-  pub drain_start : CanDrain n bound a headroom offers takers rows columns at to last → Draining n bound a headroom a headroom offers takers rows columns at to last
-  drain_start P = record {
-    sides = P.sides;
-    lists = P.lists;
-    kept = kept_none n a headroom;
-    apart = P.apart;
-    open_ends = P.open_ends;
-    begun = inr (P.layered, P.some, refl);
-  }
-
-module _ {n : ℕ} {bound a₀ headroom₀ a headroom offers takers rows columns at to : List ℕ} {last : ℕ} (D : Draining n bound a₀ headroom₀ a headroom offers takers rows columns at to last) {e : ℕ} (F : First (get_or columns last 0) e) where
-  pub drain_walk : 2 * n ≤ length headroom → e < n → CanWalk n bound a headroom offers takers rows columns at to e last
+module _ {n : ℕ} {bound a₀ headroom₀ a headroom offers takers rows columns : List ℕ} {last : ℕ} (D : Draining n bound a₀ headroom₀ a headroom offers takers rows columns last) {e : ℕ} (F : First (get_or columns last 0) e) where
+  pub drain_walk : 2 * n ≤ length headroom → e < n → CanWalk n bound a headroom offers takers rows columns e last
   drain_walk headrooms lt = record {
     sides = D.sides;
-    lists = D.lists;
+    few = D.few;
     headrooms = headrooms;
     apart = D.apart;
     open_ends = D.open_ends;
     column = lt;
-    in' = F.found (omega (arith, D.lists.layers.nodes));
+    in' = F.found (omega (arith, D.sides.below.cells.nodes));
   }
 
-  pub drain_step : {a' headroom' offers' takers' rows' columns' at' to' : List ℕ} → Walked n bound a headroom offers takers rows columns a' headroom' offers' takers' rows' columns' last → PathLists n rows' columns' at' to' last → Draining n bound a₀ headroom₀ a' headroom' offers' takers' rows' columns' at' to' last
-  drain_step W T = record {
+  pub drain_step : {a' headroom' offers' takers' rows' columns' : List ℕ} → Walked n bound a headroom offers takers rows columns a' headroom' offers' takers' rows' columns' last → Draining n bound a₀ headroom₀ a' headroom' offers' takers' rows' columns' last
+  drain_step W = record {
     sides = W.sides;
-    lists = T;
+    few = D.few;
     kept = kept_join D.kept W.kept;
     apart = W.apart;
     open_ends = W.open_ends;
@@ -225,12 +170,6 @@ module _ {n : ℕ} {bound a₀ headroom₀ a headroom offers takers rows columns
         D.begun);
   }
 
-  pub drain_end : n ≤ e → Drained n bound a₀ headroom₀ a headroom offers takers
-  drain_end none = record {
-    sides = D.sides;
-    kept = D.kept;
-    falls = ⊎_elim
-        (λ (h : row_headroom n headroom < row_headroom n headroom₀). h)
-        (λ (h : (Layered n offers takers rows columns last) × (Meets n (get_or columns last 0) (get_or columns last 0)) × (row_headroom n headroom ≡ row_headroom n headroom₀)). absurd (first_none F none h.1.node h.1.within h.1.one))
-        D.begun;
-  }
+  -- what has gone along a path that was found is a walk
+  pub drain_sent : 2 * n ≤ length headroom → e < n → {rows' columns' at to a' headroom' offers' takers' rows'' columns'' : List ℕ} {r : Bool} {i x : ℕ} → Climbed n offers takers rows columns rows' columns' at to e last r → r ≡ true → Bottleneck n bound a headroom at to e last x → Sent n bound a a' offers' takers' at (get_or to last 0) x → i ≡ get_or at 0 0 → Spent n headroom rows' columns' headroom' rows'' columns'' i e last x → Walked n bound a headroom offers takers rows columns a' headroom' offers' takers' rows'' columns'' last
+  drain_sent headrooms lt C yes' K S first E = walked_sent (drain_walk headrooms lt) C yes' K (rw (C.path yes').end' at S) (rw first at E)

@@ -6,7 +6,7 @@ use Rattle.star.specs.Lines.{line_sum}
 use Rattle.nodes.specs.Sets.{member, size, Without}
 use Rattle.growth.specs.Growth.{Below, only}
 use Rattle.growth.specs.Sides.{Sides}
-use Rattle.layers.specs.Layers.{Layered, Apart, LayerLists}
+use Rattle.layers.specs.Layers.{Layered, Apart}
 
 -- ---- paths
 -- its nodes; it ends in column e, and no column is on it twice
@@ -25,13 +25,6 @@ pub record Follows (offers takers at to : List ℕ) (last : ℕ) : Type 0 where
 pub record Passes (n : ℕ) (bound a at to : List ℕ) (last x : ℕ) : Type 0 where
   pub more : (m : ℕ) → m ≤ last → cell n a (get_or at m 0) (get_or to m 0) + x ≤ cell n bound (get_or at m 0) (get_or to m 0)
   pub less : (m : ℕ) → m < last → x ≤ cell n a (get_or at (m + 1) 0) (get_or to m 0)
-
--- lists for the layers and for a path, that are long enough
-pub record PathLists (n : ℕ) (rows columns at to : List ℕ) (last : ℕ) : Type 0 where
-  pub layers : LayerLists n rows columns
-  pub ats : n < length at
-  pub tos : n < length to
-  pub few : last ≤ n
 
 -- ---- the search for one
 -- how many nodes the layers have
@@ -56,10 +49,9 @@ pub record Thinned (rows columns rows' columns' : List ℕ) : Type 0 where
   pub row : (k i : ℕ) → member i (get_or rows' k 0) ≡ 1 → member i (get_or rows k 0) ≡ 1
   pub column : (k j : ℕ) → member j (get_or columns' k 0) ≡ 1 → member j (get_or columns k 0) ≡ 1
 
-pub record CanClimb (n : ℕ) (offers takers rows columns at to : List ℕ) (e last : ℕ) : Type 0 where
-  pub offers_room : n ≤ length offers
-  pub takers_room : n ≤ length takers
-  pub lists : PathLists n rows columns at to last
+pub record CanClimb (n : ℕ) (columns : List ℕ) (e last : ℕ) : Type 0 where
+  pub nodes : n ≤ 64
+  pub few : last ≤ n
   pub apart : Apart n columns last
   pub column : e < n
   pub in' : member e (get_or columns last 0) ≡ 1
@@ -82,8 +74,7 @@ pub record Passable (n : ℕ) (bound a headroom at to : List ℕ) (e last : ℕ)
   pub headrooms : 2 * n ≤ length headroom
   pub start : 0 < get_or headroom (get_or at 0 0) 0
   pub ending : 0 < get_or headroom (n + e) 0
-  pub ats : last < length at
-  pub tos : last < length to
+  pub few : last ≤ 64
 
 -- x can, and both ends have headroom for it
 pub record Bottleneck (n : ℕ) (bound a headroom at to : List ℕ) (e last x : ℕ) : Type 0 where
@@ -97,8 +88,7 @@ pub record CanSend (n : ℕ) (bound a offers takers at to : List ℕ) (e last x 
   pub path : Path n at to e last
   pub passes : Passes n bound a at to last x
   pub some : 0 < x
-  pub ats : last < length at
-  pub tos : last < length to
+  pub few : last ≤ 64
 
 -- x more in column e and in the first row of the path
 pub record Sent (n : ℕ) (bound a a' offers' takers' at : List ℕ) (e x : ℕ) : Type 0 where

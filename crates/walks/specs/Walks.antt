@@ -4,7 +4,7 @@ use Rattle.nodes.specs.Sets.{member}
 use Rattle.growth.specs.Growth.{SpansKept, row_headroom}
 use Rattle.growth.specs.Sides.{Sides}
 use Rattle.layers.specs.Layers.{Layered, Apart, Meets}
-use Rattle.walks.specs.Paths.{PathLists, Thinned}
+use Rattle.walks.specs.Paths.{Thinned}
 
 -- the rows of the first layer have headroom, and so have the columns of the last
 pub record OpenEnds (n : ℕ) (headroom rows columns : List ℕ) (last : ℕ) : Type 0 where
@@ -17,15 +17,14 @@ pub record LeftIfNone (layers layers' : List ℕ) (k i left : ℕ) : Type 0 wher
   pub others : (m j : ℕ) → member j (get_or layers' m 0) ≡ 1 → member j (get_or layers m 0) ≡ 1
 
 -- x can be taken from the headroom of row i and column j
-pub record CanSpend (n : ℕ) (headroom rows columns : List ℕ) (i j last x : ℕ) : Type 0 where
-  pub few : n ≤ 64
+pub record CanSpend (n : ℕ) (headroom : List ℕ) (i j last x : ℕ) : Type 0 where
+  pub nodes : n ≤ 64
+  pub few : last ≤ 64
   pub row : i < n
   pub column : j < n
   pub headrooms : 2 * n ≤ length headroom
   pub start : x ≤ get_or headroom i 0
   pub ending : x ≤ get_or headroom (n + j) 0
-  pub layers : 0 < length rows
-  pub others : last < length columns
 
 -- it is; what has no headroom left is in the first layer's rows or the last layer's columns no more
 pub record Spent (n : ℕ) (headroom rows columns headroom' rows' columns' : List ℕ) (i j last x : ℕ) : Type 0 where
@@ -35,9 +34,9 @@ pub record Spent (n : ℕ) (headroom rows columns headroom' rows' columns' : Lis
   pub column : get_or headroom' (n + j) 0 ≡ 0 → member j (get_or columns' last 0) ≡ 0
 
 -- the layers of a search that has found a column with headroom
-pub record CanDrain (n : ℕ) (bound a headroom offers takers rows columns at to : List ℕ) (last : ℕ) : Type 0 where
+pub record CanDrain (n : ℕ) (bound a headroom offers takers rows columns : List ℕ) (last : ℕ) : Type 0 where
   pub sides : Sides n bound a offers takers
-  pub lists : PathLists n rows columns at to last
+  pub few : last ≤ n
   pub headrooms : 2 * n ≤ length headroom
   pub apart : Apart n columns last
   pub open_ends : OpenEnds n headroom rows columns last

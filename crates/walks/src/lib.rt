@@ -3,5 +3,6 @@
 #![tactic(auto)]
 
 mod climb;
+pub mod lists;
 mod send;
 pub mod walk;

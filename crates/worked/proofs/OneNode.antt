@@ -11,9 +11,7 @@ use Rattle.sums.specs.Sums.{sum_to, hit}
 use Rattle.sums.specs.Searches.{first_from, first_below, some_below}
 use Rattle.sums.specs.Tables.{cell, tab, square, written}
 use Rattle.sums.proofs.Searches.{all_below}
-use Rattle.star.specs.declared.refusals.Verdict.{Verdict}
-use Rattle.star.specs.declared.refusals.Verdict.TheVariants.{Accepted}
-use Rattle.star.specs.Refusals.{check, first_above}
+use Rattle.star.specs.Refusals.{Verdict, Accepted, check, first_above}
 use Rattle.star.specs.Lines.{whole_frame, line_sum, on_line, source_on, destination_on, total, slack, excess}
 use Rattle.star.specs.Checks.{sizes_verdict, rule_verdict, rule_and_limit_verdict, ranges_verdict, demand_short_verdict, demand_above_verdict, refuse, then}
 use Rattle.star.specs.Schedules.{Carries, count, differ, reconfigurations}
@@ -22,8 +20,7 @@ use Rattle.flow.specs.Flows.{cut}
 use Rattle.flow.proofs.Check.{below?, lines?, feasible?}
 use Rattle.least.specs.Least.{Greatest, kept_from, kept_cell, left, longer, share, remainder, missing, before, rank, shared}
 use Rattle.planner.specs.declared.answers.Report.{Report}
-use Rattle.planner.specs.declared.answers.Answer.{Answer}
-use Rattle.planner.specs.declared.answers.Answer.TheVariants.{Planned}
+use Rattle.planner.specs.Plans.{Answer, Planned}
 use Rattle.planner.specs.Lent.{Lent, lent, LentRoom}
 use Rattle.planner.specs.Checks.{lent_short_verdict}
 use Rattle.books.specs.Books.{books_agree, first_disagreeing}

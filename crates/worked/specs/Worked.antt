@@ -1,15 +1,12 @@
 -- Worked by hand: the fourteen starred lines a to n of document 01, as one statement about the definitions. Each line may fill the frame.
 use Rattle.std.specs.Prelude.{ℕ, ◌-◌, ◌*◌, ◌≤◌, ◌<◌, ◌≡◌, List, [], ◌∷◌, take, replicate}
 use Rattle.sums.specs.Tables.{cell}
-use Rattle.star.specs.declared.refusals.Verdict.{Verdict}
-use Rattle.star.specs.declared.refusals.Verdict.TheVariants.{Accepted}
 use Rattle.star.specs.Lines.{total, whole_frame}
 use Rattle.star.specs.Schedules.{reconfigurations}
-use Rattle.star.specs.Refusals.{Sizes}
+use Rattle.star.specs.Refusals.{Verdict, Accepted, verdict_of, Sizes}
 use Rattle.fair.specs.Fair.{fair_kept}
 use Rattle.least.specs.Least.{Greatest, kept_from}
-use Rattle.planner.specs.declared.answers.Answer.{Answer}
-use Rattle.planner.specs.Plans.{verdict_of, Plan}
+use Rattle.planner.specs.Plans.{Answer, Plan}
 use Rattle.planner.specs.Lent.{Lent, lent, LentRoom}
 use Rattle.calls.specs.declared.record.Run.{Run}
 use Rattle.calls.specs.Held.{Held, held}

@@ -1,25 +1,11 @@
 -- `flow::largest_on` meets its contract: from zeros and ceilings to the end. Assumes nothing.
 use Prim.Native.Nat.{◌*◌}
-use mathlib.Core.Path.{◌∙◌}
-use borrow.Author.Rules.{rules}
 use Rattle.sums.proofs.Fills.{cleared_at}
 use Rattle.flow.proofs.Ends.{empty_start, finished}
 use Rattle.flow.proofs.largest_on.Goals as goal
 
-pub clear-requires : goal.clear-requires
-clear-requires c = search rules
-
 pub largest_within-requires : goal.largest_within-requires
 largest_within-requires c = empty_start c.args.n c.clear.new.table (cleared_at (c.args.n * c.args.n) c.clear.new.table c.args.a.now c.clear.ensures) c.args.bound.now c.args.a.now c.args.headroom.now c.args.marks.now c.requires c.clear.auto.table
-
-pub shape_of-headroom : goal.shape_of-headroom
-shape_of-headroom c = c.largest_within.auto.headroom
-
-pub shape_of-a : goal.shape_of-a
-shape_of-a c = c.largest_within.auto.a ∙ c.clear.auto.table
-
-pub shape_of-marks : goal.shape_of-marks
-shape_of-marks c = c.largest_within.auto.marks
 
 pub returns : goal.returns
 returns c = finished c.largest_within.ensures (cleared_at (c.args.n * c.args.n) c.clear.new.table c.args.a.now c.clear.ensures)

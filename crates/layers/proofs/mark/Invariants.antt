@@ -1,9 +1,5 @@
-use Prim.Native.Nat.{◌-◌}
 use Rattle.layers.proofs.LayerLaws.{Marking}
 use Rattle.layers.proofs.mark.Given as goal
 
 abbrev pub invariant-loop-k : goal.invariant-loop-k
-invariant-loop-k l = Marking l.n l.rows l.columns l.initial.marks l.marks l.k
-
-abbrev pub decreases-loop-k : goal.decreases-loop-k
-decreases-loop-k l = l.n - l.k
+invariant-loop-k l = Marking l.n l.rows l.columns l.marks l.k

@@ -3,4 +3,4 @@ use Rattle.nodes.proofs.Members.{joined_law}
 use Rattle.nodes.proofs.joined.Goals as goal
 
 pub returns : goal.returns
-returns c = joined_law _ _ c.ranges.low.fits c.ranges.high.fits
+returns c = rw (c.from.ensures, c.from-2.ensures) (joined_law _ _ c.ranges.low.fits c.ranges.high.fits)

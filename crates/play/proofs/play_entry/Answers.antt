@@ -1,73 +1,38 @@
+-- `play_entry` lengthens the history by the entry, by its kind. Assumes nothing.
 use native.Mathlib.Omega.{arith}
-use mathlib.Core.Path.{refl, sym, ◌∙◌}
-use borrow.Author.Rules.{rules}
-use Rattle.files.specs.Format.{kind_of, place_of}
-use Rattle.play.proofs.PlayLaws.{can_sound, can_nodes, few_posts, few_frames, post_within, played_post_at, played_frame}
+use mathlib.Core.Path.{refl, sym}
+use Rattle.play.proofs.PlayLaws.{callable, entry_there, kind_known, few_posts, few_frames, post_within, played_post_at, played_frame}
 use Rattle.play.proofs.play_entry.Goals as goal
 
--- `play_entry` lengthens the history by the entry, by its kind. Assumes nothing.
-pub overflow_mul-e : goal.overflow_mul-e
-overflow_mul-e c = omega (arith, (can_sound c.requires.can_play).table.few, c.requires.entry)
+pub kind_at-requires : goal.kind_at-requires
+kind_at-requires c = entry_there c.requires.can_play c.requires.entry
 
-pub overflow_add-e : goal.overflow_add-e
-overflow_add-e c = omega (arith, (can_sound c.requires.can_play).table.few, c.requires.entry)
+pub unwrap-requires : goal.unwrap-requires
+unwrap-requires c = kind_known c.requires.can_play c.requires.entry _ c.kind_at.ensures
 
-pub four-requires : goal.four-requires
-four-requires c = omega (arith, (can_sound c.requires.can_play).table.all, c.requires.entry)
-
-pub overflow_mul-e-then-four-eq0 : goal.overflow_mul-e-then-four-eq0
-overflow_mul-e-then-four-eq0 c = omega (arith, (can_sound c.requires.can_play).table.few, c.requires.entry)
-
-pub overflow_add-e-then-four-eq0 : goal.overflow_add-e-then-four-eq0
-overflow_add-e-then-four-eq0 c = omega (arith, (can_sound c.requires.can_play).table.few, c.requires.entry)
-
-pub four-at-requires : goal.four-at-requires
-four-at-requires c = omega (arith, (can_sound c.requires.can_play).table.all, c.requires.entry)
-
-pub overflow_cast-at : goal.overflow_cast-at
-overflow_cast-at c = search rules
+pub place_at-requires : goal.place_at-requires
+place_at-requires c = entry_there c.requires.can_play c.requires.entry
 
 pub play_post-requires : goal.play_post-requires
-unfolding kind_of place_of
-play_post-requires c = (omega (arith, can_nodes c.requires.can_play, (can_sound c.requires.can_play).ranges.sizes.nodes), omega (arith, c.four-at.ensures, post_within c.requires.can_play c.requires.entry (sym c.four.ensures ∙ c.if-four-eq0.true)))
+play_post-requires c =
+    let kind = rw c.in-Post.ensures at c.kind_at.ensures in
+    record { callable = callable c.requires.can_play; few = few_posts c.requires.can_play c.requires.entry; within = omega (arith, c.place_at.ensures, post_within c.requires.can_play c.requires.entry (sym kind)) }
 
-pub posted_record-requires : goal.posted_record-requires
-posted_record-requires c = few_posts c.requires.can_play c.requires.entry
+pub posts_after-requires : goal.posts_after-requires
+posts_after-requires c = few_posts c.requires.can_play c.requires.entry
 
-pub shape_of-waiting-then-four-eq0 : goal.shape_of-waiting-then-four-eq0
-shape_of-waiting-then-four-eq0 c = c.play_post.auto.waiting
-
-pub shape_of-posted-then-four-eq0 : goal.shape_of-posted-then-four-eq0
-shape_of-posted-then-four-eq0 c = c.play_post.auto.posted
-
-pub shape_of-sent-then-four-eq0 : goal.shape_of-sent-then-four-eq0
-shape_of-sent-then-four-eq0 c = refl
-
-pub shape_of-dropped-then-four-eq0 : goal.shape_of-dropped-then-four-eq0
-shape_of-dropped-then-four-eq0 c = c.play_post.auto.dropped
-
-pub returns-then-four-eq0 : goal.returns-then-four-eq0
-unfolding kind_of place_of
-returns-then-four-eq0 c = played_post_at c.requires.can_play c.requires.entry (sym c.four.ensures ∙ c.if-four-eq0.true) c.four-at.ensures c.play_post.ensures c.posted_record.ensures
+pub returns-in-Post : goal.returns-in-Post
+returns-in-Post c =
+    let kind = rw c.in-Post.ensures at c.kind_at.ensures in
+    played_post_at c.requires.can_play c.requires.entry (sym kind) c.place_at.ensures c.play_post.ensures (rw c.posts_after.ensures refl)
 
 pub play_frame-requires : goal.play_frame-requires
-play_frame-requires c = tt
+play_frame-requires c = record { callable = callable c.requires.can_play; few = few_frames c.requires.can_play c.requires.entry }
 
-pub framed_record-requires : goal.framed_record-requires
-framed_record-requires c = few_frames c.requires.can_play c.requires.entry
+pub frames_after-requires : goal.frames_after-requires
+frames_after-requires c = few_frames c.requires.can_play c.requires.entry
 
-pub shape_of-waiting : goal.shape_of-waiting
-shape_of-waiting c = c.play_frame.auto.waiting
-
-pub shape_of-posted : goal.shape_of-posted
-shape_of-posted c = refl
-
-pub shape_of-sent : goal.shape_of-sent
-shape_of-sent c = c.play_frame.auto.sent
-
-pub shape_of-dropped : goal.shape_of-dropped
-shape_of-dropped c = refl
-
-pub returns : goal.returns
-unfolding kind_of
-returns c = played_frame c.requires.can_play c.requires.entry c.play_frame.ensures (λ z. c.if-four-eq0.false (c.four.ensures ∙ z)) c.framed_record.ensures
+pub returns-in-Frame : goal.returns-in-Frame
+returns-in-Frame c =
+    let kind = rw c.in-Frame.ensures at c.kind_at.ensures in
+    played_frame c.requires.can_play c.requires.entry c.play_frame.ensures (λ z. omega (arith, kind)) (rw c.frames_after.ensures refl)

@@ -1,35 +1,19 @@
 -- `write_verdict` meets its contract: the groups of checks in their order. Assumes nothing.
-use native.Mathlib.Omega.{arith}
 use mathlib.Core.Path.{refl, sym, ◌∙◌}
-use borrow.Author.Tests.{lt-ltb, le-ltb}
-use Rattle.star.proofs.RefusalLaws.{fires, passes, then_stops, then_goes, ranged}
-use Rattle.file_writer.specs.Writing.{write_verdict}
+use borrow.Author.Tests.{le-ltb}
+use Rattle.star.specs.declared.refusals.Refusal.TheVariants.{BadFile}
+use Rattle.star.proofs.RefusalLaws.{passes, then_stops, then_goes, ranged, fires_found, passes_found}
+use Rattle.file_writer.specs.Writing.{first_unknown, write_verdict}
+use Rattle.file_writer.proofs.SearchLaws.{position_found}
 use Rattle.file_writer.proofs.writing.write_verdict.Goals as goal
 
-pub returns-then-entries-gt4096 : goal.returns-then-entries-gt4096
-unfolding write_verdict
-returns-then-entries-gt4096 c = then_stops _ (fires _ (lt-ltb _ _ c.if-entries-gt4096.true)) refl
-
-pub ranges-v-requires : goal.ranges-v-requires
-ranges-v-requires c = tt
-
-pub returns-in_default : goal.returns-in_default
-unfolding write_verdict
-returns-in_default c = then_goes (passes _ (le-ltb _ _ c.if-entries-gt4096.false) refl) refl (then_stops _ c.ranges-v.ensures c.in_default.is)
-
-pub first_unknown-unknown-requires : goal.first_unknown-unknown-requires
-first_unknown-unknown-requires c = tt
-
-pub overflow_cast-result : goal.overflow_cast-result
-overflow_cast-result c = omega arith
-
-pub returns-then-unknown-entries : goal.returns-then-unknown-entries
-unfolding write_verdict
-returns-then-unknown-entries c = then_goes (passes _ (le-ltb _ _ c.if-entries-gt4096.false) refl) refl (then_goes c.ranges-v.ensures c.in-Accepted.is (then_stops _ (rw (← c.first_unknown-unknown.ensures) (fires _ (lt-ltb _ _ c.if-unknown-entries.true))) refl))
+pub returns-in-Some : goal.returns-in-Some
+unfolding write_verdict first_unknown
+returns-in-Some c = then_goes (passes _ (le-ltb _ _ c.if-kinds-gt4096.false) refl) refl (then_goes c.in_ok-ranges.ensures.verdict refl (then_stops _ (fires_found _ _ BadFile _ (sym (position_found _ c.args.kinds.now) ∙ sym c.in-Some.ensures)) refl))
 
 pub cells_verdict-requires : goal.cells_verdict-requires
-cells_verdict-requires c = ((ranged _ _ _ _ (sym c.ranges-v.ensures ∙ c.in-Accepted.is)).sizes.nodes, c.if-entries-gt4096.false)
+cells_verdict-requires c = ((ranged _ _ _ _ (sym c.in_ok-ranges.ensures.verdict)).sizes.nodes, c.if-kinds-gt4096.false)
 
 pub returns : goal.returns
-unfolding write_verdict
-returns c = then_goes (passes _ (le-ltb _ _ c.if-entries-gt4096.false) refl) refl (then_goes c.ranges-v.ensures c.in-Accepted.is (then_goes (rw (← c.first_unknown-unknown.ensures) (passes _ (le-ltb _ _ c.if-unknown-entries.false) refl)) refl c.cells_verdict.ensures))
+unfolding write_verdict first_unknown
+returns c = then_goes (passes _ (le-ltb _ _ c.if-kinds-gt4096.false) refl) refl (then_goes c.in_ok-ranges.ensures.verdict refl (then_goes (passes_found _ _ _ (sym (position_found _ c.args.kinds.now) ∙ sym c.in_default.ensures) refl) refl c.cells_verdict.ensures))

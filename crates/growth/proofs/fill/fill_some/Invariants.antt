@@ -1,12 +1,11 @@
 use Prim.Native.Nat.{◌+◌}
-use mathlib.Core.Path.{◌≡◌}
-use lib.ListN.{length, set}
+use lib.ListN.{set}
 use Rattle.nodes.specs.Sets.{size}
 use Rattle.growth.specs.Sides.{Grew}
 use Rattle.growth.proofs.fill.fill_some.Given as goal
 
 abbrev pub invariant-loop-want : goal.invariant-loop-want
-invariant-loop-want l = (length l.a ≡ length l.initial.a) × (length l.headroom ≡ length l.initial.headroom) × (length l.offers ≡ length l.initial.offers) × (length l.takers ≡ length l.initial.takers) × Grew l.n l.bound l.initial.a l.initial.headroom l.a (set l.headroom (l.n + l.j) l.want) l.offers l.takers
+invariant-loop-want l = Grew l.n l.bound l.initial.a l.initial.headroom l.a (set l.headroom (l.n + l.j) l.want) l.offers l.takers
 
 abbrev pub decreases-loop-want : goal.decreases-loop-want
 decreases-loop-want l = size l.n l.todo

@@ -1,6 +1,5 @@
 -- `keep_exactly` meets its contract: E and the sums of its lines, and its lines cut. Assumes nothing.
 use native.Mathlib.Omega.{arith}
-use borrow.Author.Rules.{rules}
 use Rattle.least.proofs.Cutting.{left_square, left_demands, can_share, kept_all}
 use Rattle.least.proofs.Remains.{withdrawn_below}
 use Rattle.least.proofs.kept.keep_exactly.Goals as goal
@@ -17,9 +16,6 @@ line_sums-requires c = let pre = c.requires in
 pub share_lines-requires : goal.share_lines-requires
 share_lines-requires c = let pre = c.requires in
     can_share pre.0 c.subtract.ensures _ (omega (arith, pre.0.demand.nodes, c.line_sums.auto.sums)) c.line_sums.ensures
-
-pub shape_of-kept : goal.shape_of-kept
-shape_of-kept c = search rules
 
 pub returns : goal.returns
 returns c = kept_all c.requires.0 c.subtract.ensures _ c.share_lines.ensures

@@ -1,31 +1,31 @@
 -- `answer` prints the outcome of the input: by the cases of its length and of what is read. Assumes nothing.
-use borrow.Author.Rules.{rules}
-use Rattle.matrix_text.proofs.OutcomeLaws.{answered_long, answered_junk, answered_list}
+use mathlib.Core.Path.{◌≡◌, sym, ◌∙◌, ap, subst}
+use Rattle.std.specs.Prelude.{None, Some}
+use Rattle.pieces.specs.Text.{bad_input}
+use Rattle.pieces.proofs.PieceLaws.{answered_text}
+use Rattle.number_list.specs.Reads.{Holds, Reads}
+use Rattle.matrix_text.specs.Outcomes.{outcome, Prints}
+use Rattle.matrix_text.proofs.OutcomeLaws.{prints_long, prints_junk, prints_list}
 use Rattle.matrix_text.proofs.answers.answer.Goals as goal
+use Rattle.matrix_text.proofs.answers.answer.Goals.{in-Some, in-None, then-input-gt-MOST_BYTES, else-input-gt-MOST_BYTES}
 
-pub put_bad_input-requires : goal.put_bad_input-requires
-put_bad_input-requires c = search rules
-
-pub returns-then-input-gt65536 : goal.returns-then-input-gt65536
-returns-then-input-gt65536 c = answered_long _ c.if-input-gt65536.true c.put_bad_input.ensures
-
-pub slice_bounds-read-end : goal.slice_bounds-read-end
-slice_bounds-read-end c = search rules
-
-pub read-listed-requires : goal.read-listed-requires
-read-listed-requires c = search rules
-
-pub put_bad_input-requires-in-Junk : goal.put_bad_input-requires-in-Junk
-put_bad_input-requires-in-Junk c = search rules
-
-pub slice_bounds-put_judged-end-in-Numbers : goal.slice_bounds-put_judged-end-in-Numbers
-slice_bounds-put_judged-end-in-Numbers c = search rules
-
-pub put_judged-requires : goal.put_judged-requires
-put_judged-requires c = search rules
-
-pub returns-in-Junk : goal.returns-in-Junk
-returns-in-Junk c = answered_junk _ c.if-input-gt65536.false (rw c.in-Junk.is at c.read-listed.ensures) c.put_bad_input-in-Junk.ensures
-
-pub returns-in-Numbers : goal.returns-in-Numbers
-returns-in-Numbers c = answered_list _ c.if-input-gt65536.false (rw c.in-Numbers.is at c.read-listed.ensures) c.put_judged.ensures
+pub returns : goal.returns
+returns c =
+    let input = c.args.input.now in
+    elim c.match-listed.branch [
+      | in-Some w ↦ elim c.if-input-gt-MOST_BYTES.branch [
+        | then-input-gt-MOST_BYTES v ↦ let e : None ≡ Some w.in-Some.count = sym v.listed-is ∙ w.in-Some.is in cc
+        | else-input-gt-MOST_BYTES v ↦
+            let listed : v.read-listed.result ≡ Some w.in-Some.count = sym v.listed-is ∙ w.in-Some.is in
+            let holds : Holds input c.if-input-gt-MOST_BYTES.table w.in-Some.count = subst (λ t. Holds input t w.in-Some.count) (sym v.table-is) (subst (Reads input v.read-listed.new.table) listed v.read-listed.ensures) in
+            let judged = w.put_judged.ensures in
+            answered_text c.new-text.ensures.bytes c.new-text.ensures.start (prints_list input v.if-input-gt-MOST_BYTES.false holds (judged.prints holds.numbers holds.stored)) judged.puts (ap (λ t. t.out.now) w.text-is) (c.length.ensures ∙ ap (λ t. t.at) w.text-is)
+      ]
+      | in-None w ↦
+          let bad : Prints (outcome input) bad_input
+          = elim c.if-input-gt-MOST_BYTES.branch [
+            | then-input-gt-MOST_BYTES v ↦ prints_long input v.if-input-gt-MOST_BYTES.true
+            | else-input-gt-MOST_BYTES v ↦ prints_junk input v.if-input-gt-MOST_BYTES.false (subst (Reads input v.read-listed.new.table) (sym v.listed-is ∙ w.in-None.is) v.read-listed.ensures)
+          ] in
+          answered_text c.new-text.ensures.bytes c.new-text.ensures.start bad w.put_bad_input.ensures (ap (λ t. t.out.now) w.text-is) (c.length.ensures ∙ ap (λ t. t.at) w.text-is)
+    ]

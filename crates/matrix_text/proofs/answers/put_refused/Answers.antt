@@ -1,46 +1,30 @@
--- `put_refused` prints a refusal, or `bad input` where the count of demands comes first and is wrong: by the cases of its tests. Assumes nothing.
+-- `put_refused` prints a refusal, or `bad input` where the count of demands comes first and is wrong: by the cases of its test. Assumes nothing.
 use native.Mathlib.Omega.{arith}
-use mathlib.Core.Path.{◌≡◌, ◌∙◌, ap₂, sym}
-use borrow.Author.Rules.{rules}
+use mathlib.Core.Path.{◌≡◌, sym, ◌∙◌}
+use borrow.Author.Tests.{leb-true, leb-false}
 use Rattle.star.specs.Refusals.{refusal_number, refusal_place}
-use Rattle.pieces.specs.Text.{refusal_text}
+use Rattle.pieces.specs.Text.{bad_input, refusal_text}
 use Rattle.matrix_text.specs.Writes.{refused_text}
 use Rattle.matrix_text.proofs.OutcomeLaws.{refused_early, refused_whole, refused_late}
 use Rattle.matrix_text.proofs.answers.put_refused.Goals as goal
-use Rattle.matrix_text.proofs.answers.put_refused.Goals.{then-number-gt3+else-not-whole, else-number-gt3}
+use Rattle.matrix_text.proofs.answers.put_refused.Goals.{then-whole, else-whole}
 
-pub number-requires : goal.number-requires
-number-requires c = search rules
-
-pub put_bad_input-requires : goal.put_bad_input-requires
-put_bad_input-requires c = search rules
-
-pub shape_of-out-then-not-whole : goal.shape_of-out-then-not-whole
-shape_of-out-then-not-whole c = search rules
-
-pub returns-then-not-whole : goal.returns-then-not-whole
-returns-then-not-whole c = rw (refused_late c.args.whole c.args.refusal (omega (arith, c.if-number-gt3.true, c.number.ensures)) c.if-not-whole.true) c.put_bad_input.ensures
-
-pub number-requires-2 : goal.number-requires-2
-number-requires-2 c = search rules
-
-pub overflow_cast-number : goal.overflow_cast-number
-overflow_cast-number c = search rules
-
-pub place-requires : goal.place-requires
-place-requires c = search rules
-
-pub overflow_cast-place : goal.overflow_cast-place
-overflow_cast-place c = search rules
-
-pub put_refusal-requires : goal.put_refusal-requires
-put_refusal-requires c = search rules
-
-pub shape_of-out : goal.shape_of-out
-shape_of-out c = search rules
-
-pub returns : goal.returns
-returns c = let x = c.args.refusal in
+pub returns-then-number-le3 : goal.returns-then-number-le3
+returns-then-number-le3 c =
+    let x = c.args.refusal in
     let given : refused_text c.args.whole x ≡ refusal_text (refusal_number x) (refusal_place x)
-    = elim c.if-number-gt3.branch [ then-number-gt3+else-not-whole w ↦ refused_whole c.args.whole x w.if-not-whole.false | else-number-gt3 w ↦ refused_early c.args.whole x (omega (arith, w.if-number-gt3.false, c.number.ensures)) ] in
-    rw (given ∙ ap₂ refusal_text (sym c.number-2.ensures) (sym c.place.ensures)) c.put_refusal.ensures
+    = elim c.if-whole.branch [
+      | then-whole w ↦ refused_whole c.args.whole x w.if-whole.true
+      | else-whole w ↦ refused_early c.args.whole x (omega (arith, w.number.ensures, leb-true _ _ (sym w.value-is ∙ c.if-number-le3.true)))
+    ] in
+    rw (given, ← c.number-then-number-le3.ensures, ← c.place.ensures, ← c.from.ensures, ← c.from-then-number-le3.ensures) c.put_refusal.ensures
+
+pub returns-else-number-le3 : goal.returns-else-number-le3
+returns-else-number-le3 c =
+    let x = c.args.refusal in
+    let late : refused_text c.args.whole x ≡ bad_input
+    = elim c.if-whole.branch [
+      | then-whole w ↦ cc
+      | else-whole w ↦ refused_late c.args.whole x (omega (arith, w.number.ensures, leb-false _ _ (sym w.value-is ∙ c.if-number-le3.false))) w.if-whole.false
+    ] in
+    rw late c.put_bad_input.ensures

@@ -1,7 +1,6 @@
 -- `slots::placing::place_exactly` meets its contract: the steps one after the other: nothing is placed, all is placed, and the slots after it are idle. Assumes nothing.
 use native.Mathlib.Omega.{arith}
 use mathlib.Core.Path.{◌∙◌}
-use borrow.Author.Rules.{rules}
 use Rattle.arrays.proofs.Stores.{frame_kept}
 use Rattle.changes.proofs.ChangeLaws.{changes_most}
 use Rattle.slots.proofs.RoundLaws.{place_small, place_most, place_settle, place_end}
@@ -9,9 +8,6 @@ use Rattle.slots.proofs.placing.place_exactly.Goals as goal
 
 pub pad-r-requires : goal.pad-r-requires
 pad-r-requires c = record { square = c.requires.can_place.square; small = place_small c.requires.can_place }
-
-pub overflow_cast-r : goal.overflow_cast-r
-overflow_cast-r c = search rules
 
 pub settle-changes-requires : goal.settle-changes-requires
 settle-changes-requires c = place_settle c.requires.can_place c.pad-r.ensures c.pad-r.auto.table
@@ -21,12 +17,6 @@ rest-requires c = (frame_kept c.args.schedule.now _ c.settle-changes.auto.schedu
 
 pub overflow_add-result : goal.overflow_add-result
 overflow_add-result c = omega (arith, c.settle-changes.ensures.changed, changes_most c.args.n c.pad-r.result c.settle-changes.new.schedule, place_most c.requires.can_place c.pad-r.ensures, c.requires.can_place.frame.slots, c.rest.ensures.most)
-
-pub shape_of-kept : goal.shape_of-kept
-shape_of-kept c = search rules
-
-pub shape_of-schedule : goal.shape_of-schedule
-shape_of-schedule c = search rules
 
 pub returns : goal.returns
 returns c = place_end c.requires.can_place c.pad-r.ensures c.requires.exact (c.settle-changes.auto.table ∙ c.pad-r.auto.table) c.settle-changes.ensures c.rest.ensures

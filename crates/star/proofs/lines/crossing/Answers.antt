@@ -1,11 +1,7 @@
 -- `star::lines::crossing` meets its contract: by the cases row and column. Assumes nothing.
 use Rattle.star.proofs.CrossingLaws.{crossing_row, crossing_column}
 use mathlib.Core.Path.{sym}
-use borrow.Author.Rules.{rules}
 use Rattle.star.proofs.lines.crossing.Goals as goal
-
-pub overflow_add-result : goal.overflow_add-result
-overflow_add-result c = search rules
 
 pub returns-then-line-n : goal.returns-then-line-n
 returns-then-line-n c = sym (crossing_row _ _ _ c.if-line-n.true)

@@ -1,14 +1,7 @@
 -- `star::lines::on_line` meets its contract: a row and a column are the two cases of a line. Assumes nothing.
 use mathlib.Core.Path.{◌∙◌, sym}
-use borrow.Author.Rules.{rules}
 use Rattle.star.proofs.LineLaws.{on_row, on_column}
 use Rattle.star.proofs.lines.on_line.Goals as goal
-
-pub get-requires : goal.get-requires
-get-requires c = search rules
-
-pub get-requires-else-line-n : goal.get-requires-else-line-n
-get-requires-else-line-n c = search rules
 
 pub returns-then-line-n : goal.returns-then-line-n
 returns-then-line-n c = c.get.ensures ∙ sym (on_row _ _ _ _ c.if-line-n.true)
