@@ -44,7 +44,7 @@
  * several threads at once on tables of their own.
  *
  * To link: crates/export/out/libexport.a, which `rt lib` in crates/export makes, for x86-64 Linux.
- * It calls memcpy and memset, and needs nothing else.
+ * It calls memcpy, memmove and memset, and needs nothing else.
  *
  * The stack that a call needs, measured of the x86-64 code at N 64 and L 1024 over many families of
  * demands, rounded up, in bytes:
@@ -61,7 +61,7 @@
  * the one that prints a number, for each digit once, and a call takes the same whatever is asked; so
  * 4 KiB are enough for every entry but play_scenario, which holds the tables of the run that it
  * plays: for it 220 KiB are enough, more than some systems give a thread. A program that binds
- * symbols lazily may take 4 KiB more when memset or memcpy is called first. */
+ * symbols lazily may take 4 KiB more when one of these is called first. */
 
 #ifndef GYODAEBEUN_H
 #define GYODAEBEUN_H
