@@ -52,12 +52,12 @@
  *   slacks            1200
  *   fresh              200
  *   post               350
- *   plan              3800 under either rule
- *   frame             4000 under either rule
+ *   plan              3900 under either rule
+ *   frame             4050 under either rule
  *   write_scenario     200
  *   play_scenario   218000 under either rule
  *
- * Of a plan or a frame, placing what is kept takes 1500. No function of the library calls itself but
+ * Of a plan or a frame, placing what is kept takes 1510. No function of the library calls itself but
  * the one that prints a number, for each digit once, and a call takes the same whatever is asked; so
  * 4 KiB are enough for every entry but play_scenario, which holds the tables of the run that it
  * plays: for it 220 KiB are enough, more than some systems give a thread. A program that binds
