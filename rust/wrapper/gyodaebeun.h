@@ -44,24 +44,24 @@
  * several threads at once on tables of their own.
  *
  * To link: crates/export/out/libexport.a, which `rt lib` in crates/export makes, for x86-64 Linux.
- * It calls memcpy, memmove and memset, and needs nothing else.
+ * It calls memcpy and memset, and needs nothing else.
  *
  * The stack that a call needs, measured of the x86-64 code at N 64 and L 1024 over many families of
  * demands, rounded up, in bytes:
  *
  *   slacks            1200
  *   fresh              200
- *   post               350
- *   plan              3900 under either rule
- *   frame             4050 under either rule
- *   write_scenario     200
+ *   post               360
+ *   plan              3800 under either rule
+ *   frame             4000 under either rule
+ *   write_scenario     260
  *   play_scenario   218000 under either rule
  *
  * Of a plan or a frame, placing what is kept takes 1510. No function of the library calls itself but
- * the one that prints a number, for each digit once, and a call takes the same whatever is asked; so
+ * the one that prints a number, for two digits once, and a call takes the same whatever is asked; so
  * 4 KiB are enough for every entry but play_scenario, which holds the tables of the run that it
  * plays: for it 220 KiB are enough, more than some systems give a thread. A program that binds
- * symbols lazily may take 4 KiB more when one of these is called first. */
+ * symbols lazily may take 4 KiB more when memset or memcpy is called first. */
 
 #ifndef GYODAEBEUN_H
 #define GYODAEBEUN_H

@@ -21,7 +21,6 @@ fresh_half {n} nodes begins ends few = record {
   none = λ j hj. rw (get_or-replicate {A = ℕ} 64 j 0 0 (omega arith)) (record { out = member_none });
 }
 
--- ---- the sets below j are joined, and set j
 -- ---- a row below 32 is in the low half, and any other in the high half
 pub halves_at_least : {n : ℕ} {table : List ℕ} {x : ℕ} {low high sets : List ℕ} {middle : ℕ} → middle ≡ min n 32
     → RowsAdded n table x low 0 middle → RowsAdded n table x high middle n → HalvesJoined low high sets n → AtLeast n table x sets

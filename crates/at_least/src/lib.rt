@@ -39,15 +39,24 @@ fn join(n: usize, low: &[u32], high: &[u32], sets: &mut [u64])
     }
 }
 
+// Two halves of each set of rows, as one value: so they take one place of the stack, where flow has its layers later.
+#[derive(Drop)]
+struct Halves {
+    low: [u32; 64],
+    high: [u32; 64],
+}
+
 // For each column of a table the rows whose cell is at least `threshold`, as a set. They are found in halves, of which the machine takes four at a time.
 pub fn rows(n: usize, table: &[u32], threshold: u32, sets: &mut [u64])
     requires { (Square n table.now) × (n ≤ length sets.old) }
     ensures { AtLeast n table.now threshold sets.new }
 {
     let middle = n.min(32);
-    let mut low = [0u32; 64];
-    let mut high = [0u32; 64];
-    add_rows(n, table, threshold, &mut low, 0, middle);
-    add_rows(n, table, threshold, &mut high, middle, n);
-    join(n, &low, &high, sets);
+    let mut halves = Halves {
+        low: [0; 64],
+        high: [0; 64],
+    };
+    add_rows(n, table, threshold, &mut halves.low, 0, middle);
+    add_rows(n, table, threshold, &mut halves.high, middle, n);
+    join(n, &halves.low, &halves.high, sets);
 }

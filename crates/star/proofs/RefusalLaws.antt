@@ -47,12 +47,12 @@ fires_found m first r later e =
     let is = found_first e in
     rw is.0 (fires later (lt-ltb first m (omega (arith, is.0, is.1))))
 
--- .. and passes where nothing is found
+-- .. and passes where nothing is found: none of those searched is
+pub passed_all : {m first : ℕ} → found m first ≡ None → m ≤ first
+passed_all {m} {first} e = by_lt first m (λ lt. absurd (none_some (sym e ∙ found_some m first lt))) (λ le. le)
+
 pub passes_found : (m first : ℕ) (r : Refusal) {v later : Verdict} → found m first ≡ None → v ≡ later → v ≡ refuse (some_cell m first) r later
-passes_found m first r e h =
-    by_lt first m
-    (λ lt. absurd (none_some (sym e ∙ found_some m first lt)))
-    (λ le. passes r (le-ltb first m le) h)
+passes_found m first r e h = passes r (le-ltb first m (passed_all e)) h
 
 -- ---- a chain of refusals by their names says in numbers what the chain of their numbers and places says
 pub in_numbers : (b : Bool) (r : Refusal) (later : Verdict) {rest : Notice} → notice_of later ≡ rest → notice_of (refuse b r later) ≡ check b (refusal_number r) (refusal_place r) rest
