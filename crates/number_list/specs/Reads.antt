@@ -1,16 +1,17 @@
 -- What the functions that read the list promise.
-use Rattle.std.specs.Prelude.{ℕ, ◌≡◌, List, length, take, cond, Option, None, Some}
+use Rattle.std.specs.Prelude.{ℕ, ◌<◌, ◌≡◌, List, [], ◌∷◌, ◌++◌, length, take, Option, None, Some}
 use Rattle.std.proofs.Math.Option.{none, some}
-use Rattle.number_list.specs.Input.{is_number, value_from, list_of}
-
--- the number that a word is, if it is one
-abbrev pub number_of : List ℕ → Option ℕ
-number_of word = cond (is_number word) (Some (value_from 0 word)) None
+use Rattle.number_list.specs.Input.{list_of}
 
 -- the numbers counted, of which the table holds as many as it has cells for
 pub record Stored (table : List ℕ) (count : ℕ) (numbers : List ℕ) : Type 0 where
   pub counted : count ≡ length numbers
   pub held : take (length table) numbers ≡ take count table
+
+-- the end of a word: where it has digits, their number comes after those that the table stores
+pub record Ended (table table' : List ℕ) (count count' digits value : ℕ) : Type 0 where
+  pub empty : digits ≡ 0 → (count' ≡ count) × (table' ≡ table)
+  pub number : 0 < digits → (numbers : List ℕ) → Stored table count numbers → Stored table' count' (numbers ++ (value ∷ []))
 
 -- a list that the table stores
 pub record Holds (input table : List ℕ) (count : ℕ) : Type 0 where

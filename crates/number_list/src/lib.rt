@@ -1,40 +1,46 @@
-// A list of decimal numbers, read word by word.
+// A list of decimal numbers, read byte by byte.
 #![tactic(auto)]
 
-ghost use Rattle.std.specs.Prelude.{◌≡◌};
-ghost use Rattle.number_list.specs.Reads.{number_of, Reads};
+ghost use Rattle.std.specs.Prelude.{◌<◌};
+ghost use Rattle.number_list.specs.Reads.{Ended, Reads};
 
-// The number that a word is: at most nine bytes, each of them a digit.
-fn number(word: &[u8]) -> Option<u32>
-    ensures { result ≡ number_of word.now }
+// Ends the word at hand: a number is counted, and stored where the table has a cell for it.
+fn end_word(table: &mut [u32], count: usize, digits: usize, value: u32) -> usize
+    requires { count < 9223372036854775808 }
+    ensures { Ended table.old table.new count result digits value }
 {
-    if word.len() > 9 {
-        return None;
+    if digits == 0 {
+        return count;
     }
-    let mut value = 0;
-    for b in word {
-        if !b.is_ascii_digit() {
-            return None;
-        }
-        value = value * 10 + u32::from(*b - b'0');
+    if count < table.len() {
+        table[count] = value;
     }
-    Some(value)
+    count + 1
 }
 
 // How many numbers the list has, if the input is one. Spaces and line feeds part the words. All of the list is checked and counted, also what the table
-// has no cell for.
+// has no cell for. What is no list is known at its first bad byte: `split` finds the end of a word before the word is looked at.
 pub fn read(input: &[u8], table: &mut [u32]) -> Option<usize>
     ensures { Reads input.now table.new result }
 {
     let mut count = 0;
-    for word in input.split(|b| matches!(b, b' ' | b'\n')) {
-        if !word.is_empty() {
-            let number = number(word)?;
-            if count < table.len() {
-                table[count] = number;
+    let mut digits = 0;
+    let mut value = 0;
+    for b in input {
+        if b.is_ascii_digit() {
+            if digits == 9 {
+                return None;
             }
-            count += 1;
+            value = value * 10 + u32::from(*b - b'0');
+            digits += 1;
+            continue;
         }
+        if !matches!(b, b' ' | b'\n') {
+            return None;
+        }
+        count = end_word(table, count, digits, value);
+        digits = 0;
+        value = 0;
     }
-    Some(count)
+    Some(end_word(table, count, digits, value))
 }
