@@ -1,17 +1,13 @@
 -- How many posts there are, and how long each piece of the file is. Assumes nothing.
-use Prim.Native.Nat.{ℕ, zero, suc, ◌+◌, ◌*◌, ◌≤◌}
+use Prim.Native.Nat.{ℕ, ◌+◌, ◌*◌, ◌≤◌}
 use native.Mathlib.Nat.{mul-le-mul}
 use native.Mathlib.Omega.{arith}
-use native.Mathlib.Numerals.{add-one}
-use mathlib.Core.Path.{◌≡◌, refl, sym, ap, ◌∙◌}
+use mathlib.Core.Path.{◌≡◌, refl, ap, ◌∙◌}
 use mathlib.Core.Bool.{Bool, true, false}
 use mathlib.Core.List.{List}
 use lib.Dec.{eqb}
-use lib.ListN.{length, get_or, take, length-append}
-use lib.Seq.{take-length}
+use lib.ListN.{length, get_or, length-append}
 use mir.Val.{bool_byte}
-use Rattle.std.specs.List.{count_by}
-use Rattle.std.proofs.lemmas.List.Sums.{count_by_more_yes, count_by_more_no}
 use Rattle.sums.specs.Sums.{sum_to, bit}
 use Rattle.sums.proofs.Gates.{bit_most}
 use Rattle.sums.proofs.Sums.{sum_one, sum_more, sum_part}
@@ -45,19 +41,6 @@ module _ (kinds : List ℕ) where
   pub posts_part : (d e : ℕ) → d ≤ e → posts_to kinds d ≤ posts_to kinds e
   unfolding posts_to
   posts_part d e h = sum_part d e (λ k. bit (eqb (get_or kinds k 0) 0)) h
-
-  -- counted from the front
-  posts_taken : (e : ℕ) → e ≤ length kinds → count_by (λ kind. eqb kind 0) (take e kinds) ≡ posts_to kinds e
-  unfolding posts_to sum_to
-  posts_taken zero h = refl
-  posts_taken (suc e) h = ap (λ k. count_by (λ kind. eqb kind 0) (take k kinds)) (sym (add-one e)) ∙ turn (eqb (get_or kinds e 0) 0) refl (posts_taken e (omega arith)) ∙ ap (posts_to kinds) (add-one e)
-    where
-      turn : (b : Bool) → eqb (get_or kinds e 0) 0 ≡ b → count_by (λ kind. eqb kind 0) (take e kinds) ≡ posts_to kinds e → count_by (λ kind. eqb kind 0) (take (e + 1) kinds) ≡ posts_to kinds (e + 1)
-      turn true is so_far = count_by_more_yes (λ kind. eqb kind 0) kinds e 0 (omega arith) is ∙ omega (arith, so_far, posts_more e, ap bit is)
-      turn false is so_far = count_by_more_no (λ kind. eqb kind 0) kinds e 0 (omega arith) is ∙ omega (arith, so_far, posts_more e, ap bit is)
-
-  pub posts_counted : count_by (λ kind. eqb kind 0) kinds ≡ posts_to kinds (length kinds)
-  posts_counted = ap (count_by (λ kind. eqb kind 0)) (sym (take-length kinds)) ∙ posts_taken (length kinds) (omega arith)
 
 -- 4,096 posts of 64 nodes have few cells
 pub cells_few : (n p : ℕ) → n ≤ 64 → p ≤ 4096 → p * (n * n) ≤ 16777216

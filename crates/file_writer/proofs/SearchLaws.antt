@@ -1,17 +1,16 @@
 -- The first item of a list that has what a test asks, as an iterator finds it, is the first number at which the test of that item holds. Assumes nothing.
-use Prim.Native.Nat.{ℕ, ◌≤◌}
+use Prim.Native.Nat.{ℕ}
 use native.Mathlib.Omega.{arith}
-use mathlib.Core.Path.{◌≡◌, sym, ◌∙◌, ap}
+use mathlib.Core.Path.{◌≡◌, sym}
 use mathlib.Core.Bool.{Bool}
 use mathlib.Core.List.{List}
-use lib.ListN.{length, get_or, take}
+use lib.ListN.{length, get_or}
 use borrow.Author.Tests.{lt-ltb, le-ltb}
 use Rattle.std.specs.Prelude.{position}
-use Rattle.std.proofs.lemmas.List.{length-take-le, get_or-take}
 use Rattle.std.proofs.lemmas.List.Sums.{position_or_len_is}
 use Rattle.sums.specs.Searches.{found, first_below}
 use Rattle.sums.proofs.Cases.{by_lt}
-use Rattle.sums.proofs.Searches.{first_before, first_here, first_ext, found_some, found_none}
+use Rattle.sums.proofs.Searches.{first_before, first_here, found_some, found_none}
 
 pub position_found : (test : ℕ → Bool) (xs : List ℕ) → position test xs ≡ found (length xs) (first_below (length xs) (λ k. test (get_or xs k 0)))
 position_found test xs =
@@ -22,9 +21,3 @@ position_found test xs =
     (λ le.
     let is = position_or_len_is test xs (length xs) 0 (omega arith) (λ k h. first_before (λ k. test (get_or xs k 0)) (length xs) k (omega arith)) (λ h. absurd (omega arith)) in
     rw (is, le-ltb (length xs) (length xs) (omega arith)) (sym (found_none _ _ le)))
-
--- and among the first m items
-pub position_found_in : (test : ℕ → Bool) (m : ℕ) (xs : List ℕ) → m ≤ length xs → position test (take m xs) ≡ found m (first_below m (λ k. test (get_or xs k 0)))
-position_found_in test m xs h =
-    position_found test (take m xs)
-    ∙ rw (length-take-le m xs h) (ap (found m) (first_ext m _ _ (λ q lt. ap test (get_or-take m xs q 0 lt))))

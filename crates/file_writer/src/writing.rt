@@ -1,13 +1,16 @@
 // Writing a file: its length, or the first refusal.
 #![tactic(auto, unfolding(crate::specs::Writing::cells_verdict, crate::specs::Writing::write_verdict, star::specs::Checks::refuse, star::specs::Checks::then))]
 
-ghost use Rattle.std.specs.Prelude.{◌≡◌, ◌≤◌, ltb, length, position};
+ghost use Rattle.std.specs.Prelude.{◌≡◌, ◌*◌, ◌≤◌, ltb, length, position};
+ghost use Rattle.sums.specs.Searches.{found};
+ghost use Rattle.star.specs.Refusals.{first_above_in};
 ghost use Rattle.file_writer.specs.Writing.{cells_verdict, write_verdict, WriteResult};
 
 use crate::bytes::{count_posts, put_cells, put_entries, put_sizes};
 use files::kinds::Kind;
 use pieces::Pieces;
 use star::checks::ranges;
+use star::lines::first_above;
 use star::refusals::Refusal;
 
 // The first entry of an unknown kind.
@@ -17,11 +20,19 @@ fn first_unknown(kinds: &[u32]) -> Option<usize>
     kinds.iter().position(|kind| Kind::try_from(*kind).is_err())
 }
 
-// The first of these cells that is above 65,535.
-fn first_wide(cells: &[u32]) -> Option<usize>
-    ensures { result ≡ position (λ cell. ltb 65535 cell) cells.now }
+// The first of the posts' cells that is above 65,535, as its place among all of them: one matrix after the other, of each of which only a row that has
+// one is searched. `position` over all cells looks at one at a time.
+fn first_wide(n: usize, posts: usize, cells: &[u32]) -> Option<usize>
+    requires { (n ≤ 64) × (posts * (n * n) ≤ length cells.now) }
+    ensures { result ≡ found (posts * (n * n)) (first_above_in (posts * (n * n)) cells.now) }
 {
-    cells.iter().position(|cell| *cell > 65535)
+    for p in 0..posts {
+        let at = p * (n * n);
+        if let Some(cell) = first_above(n, &cells[at..]) {
+            return Some(at + cell);
+        }
+    }
+    None
 }
 
 // Missing cells (4), too few bytes (5), a cell above 65,535 (6).
@@ -29,14 +40,15 @@ fn cells_verdict(n: usize, kinds: &[u32], cells: &[u32], bytes: usize) -> Result
     requires { (n ≤ 64) × (length kinds.now ≤ 4096) }
     ensures { result ≡ cells_verdict n kinds.now cells.now bytes }
 {
-    let count = count_posts(kinds) * (n * n);
+    let posts = count_posts(kinds);
+    let count = posts * (n * n);
     if cells.len() < count {
         return Err(Refusal::DemandShort);
     }
     if bytes < 20 + 8 * kinds.len() + 2 * count {
         return Err(Refusal::TableShort);
     }
-    match first_wide(&cells[..count]) {
+    match first_wide(n, posts, cells) {
         Some(cell) => Err(Refusal::DemandAbove { cell: cell as u32 }),
         None => Ok(()),
     }

@@ -1,8 +1,8 @@
 -- Decimal digits and how many there are; how long a text is, and that a refusal's line fits. The laws assume nothing.
 use Prim.Native.Nat.{ℕ, zero, suc, ◌+◌, ◌/◌, ◌%◌, ◌^◌, ◌≤◌, ◌<◌}
 use native.Mathlib.Omega.{arith}
-use native.Mathlib.Nat.{mod-eq_of_lt, pow-suc}
-use mathlib.Core.Path.{◌≡◌, refl, ap}
+use native.Mathlib.Nat.{pow-suc}
+use mathlib.Core.Path.{◌≡◌, refl, ap, ◌∙◌}
 use mathlib.Core.List.{List, [], ◌∷◌, ◌++◌}
 use lib.ListN.{length, length-append}
 use borrow.Author.Tests.{lt-ltb, le-ltb}
@@ -21,9 +21,9 @@ turns_enough (suc m) (suc k) n hm hk =
     (λ low. rw (lt-ltb n 10 low, digits_in) refl)
     (λ high. rw (le-ltb n 10 high, digits_in) (ap (λ l. l ++ ((48 + n % 10) ∷ [])) (turns_enough m k (n / 10) (omega arith) (omega arith))))
 
-pub decimal_digit : (n : ℕ) → n < 10 → decimal n ≡ (48 + n % 10) ∷ []
+pub decimal_digit : (n : ℕ) → n < 10 → decimal n ≡ (48 + n) ∷ []
 unfolding decimal digits_in
-decimal_digit n low = rw (lt-ltb n 10 low, digits_in, mod-eq_of_lt low)
+decimal_digit n low = rw (lt-ltb n 10 low, digits_in)
 
 pub decimal_more : (n : ℕ) → 10 ≤ n → decimal n ≡ decimal (n / 10) ++ ((48 + n % 10) ∷ [])
 unfolding decimal digits_in
@@ -34,6 +34,23 @@ one_digit n low = rw (decimal_digit n low)
 
 pub one_digit_more : (n : ℕ) → 10 ≤ n → length (decimal n) ≡ length (decimal (n / 10)) + 1
 one_digit_more n high = rw (decimal_more n high) (length-append (decimal (n / 10)) ((48 + n % 10) ∷ []))
+
+-- two digits at once
+pub two_digits : (n : ℕ) → 10 ≤ n → n < 100 → decimal n ≡ ((48 + n / 10) ∷ []) ++ ((48 + n % 10) ∷ [])
+two_digits n high low = decimal_more n high ∙ ap (λ l. l ++ ((48 + n % 10) ∷ [])) (decimal_digit (n / 10) (omega arith))
+
+pub two_digits_more : (n : ℕ) → 100 ≤ n → decimal n ≡ (decimal (n / 100) ++ ((48 + n / 10 % 10) ∷ [])) ++ ((48 + n % 10) ∷ [])
+two_digits_more n high =
+    let tenths : n / 10 / 10 ≡ n / 100 = omega arith in
+    decimal_more n (omega arith) ∙ ap (λ l. l ++ ((48 + n % 10) ∷ [])) (decimal_more (n / 10) (omega arith) ∙ ap (λ k. decimal k ++ ((48 + n / 10 % 10) ∷ [])) tenths)
+
+pub two_length : (n : ℕ) → 10 ≤ n → n < 100 → length (decimal n) ≡ 2
+two_length n high low = omega (arith, one_digit_more n high, one_digit (n / 10) (omega arith))
+
+pub two_more_length : (n : ℕ) → 100 ≤ n → length (decimal n) ≡ length (decimal (n / 100)) + 2
+two_more_length n high =
+    let tenths : n / 10 / 10 ≡ n / 100 = omega arith in
+    omega (arith, one_digit_more n (omega arith), one_digit_more (n / 10) (omega arith), ap (λ k. length (decimal k)) tenths)
 
 -- a number below 10 ^ (k + 1) has at most k + 1 digits
 pub decimal_length : (k n : ℕ) → n < 10 ^ suc k → length (decimal n) ≤ suc k

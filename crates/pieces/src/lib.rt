@@ -57,14 +57,23 @@ impl Pieces<'_> {
         self.at = end;
     }
 
-    // A number without leading zeros: what stands before its last digit, and that digit.
+    // A number without leading zeros: what stands before its last two digits, and those. Two at a time, since each call waits for the place that the one
+    // before it has stored.
     pub fn put_number(&mut self, n: u64)
         requires { HasRoom self.old (length (decimal n)) }
         ensures { Puts self.old self.new (decimal n) }
     {
-        if n >= 10 {
-            self.put_number(n / 10);
+        if n < 10 {
+            self.put_byte(b'0' + n as u8);
+            return;
         }
+        if n < 100 {
+            self.put_byte(b'0' + (n / 10) as u8);
+            self.put_byte(b'0' + (n % 10) as u8);
+            return;
+        }
+        self.put_number(n / 100);
+        self.put_byte(b'0' + (n / 10 % 10) as u8);
         self.put_byte(b'0' + (n % 10) as u8);
     }
 

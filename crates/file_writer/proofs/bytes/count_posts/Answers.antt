@@ -1,10 +1,15 @@
--- `count_posts` counts the entries of kind 0. Assumes nothing.
-use mathlib.Core.Path.{◌≡◌, ◌∙◌}
-use lib.Dec.{eqb}
-use borrow.Author.Rules.{rules}
-use Rattle.std.specs.List.{count_by}
-use Rattle.file_writer.proofs.ByteLaws.{posts_counted}
+-- `count_posts` meets its contract: the posts among the entries passed are counted. Assumes nothing.
+use Prim.Native.Nat.{◌+◌}
+use native.Mathlib.Omega.{arith}
+use mathlib.Core.Path.{sym}
+use Rattle.file_writer.proofs.ByteLaws.{posts_none, posts_next, posts_few}
 use Rattle.file_writer.proofs.bytes.count_posts.Goals as goal
 
-pub returns : goal.returns
-returns c = let counted : c.count.result ≡ count_by (λ kind. eqb kind 0) c.args.kinds.now = search rules in counted ∙ posts_counted c.args.kinds.now
+pub loop-kind-init : goal.loop-kind-init
+loop-kind-init c = sym (posts_none _)
+
+pub overflow_add-posts : goal.overflow_add-posts
+overflow_add-posts c = omega (arith, c.loop-kind.invariant, c.from-posts.ensures, posts_next c.args.kinds.now c.loop-kind.kind-index, posts_few c.args.kinds.now (c.loop-kind.kind-index + 1), c.loop-kind-test.true)
+
+pub loop-kind-preserved : goal.loop-kind-preserved
+loop-kind-preserved c = omega (arith, c.loop-kind.invariant, c.from-posts.ensures, posts_next c.args.kinds.now c.loop-kind.kind-index)
