@@ -42,14 +42,17 @@ impl Books<'_> {
         )
     }
 
-    // The first pair in row order whose books disagree, if one's do.
+    // The first pair in row order whose books disagree, if one's do. Row by row: of one loop over all cells the machine code is no longer, but it is not
+    // aligned, and takes a third more time.
     pub fn first_disagreeing(&self, n: usize, limit: u32, posts: u32) -> Option<usize>
         requires { Tables n self.now.waiting.now self.now.posted.now self.now.sent.now self.now.dropped.now }
         ensures { result ≡ found (n * n) (first_disagreeing n limit posts self.now.waiting.now self.now.posted.now self.now.sent.now self.now.dropped.now) }
     {
-        for p in 0..n * n {
-            if !self.agree_at(limit, posts, p) {
-                return Some(p);
+        for i in 0..n {
+            for j in 0..n {
+                if !self.agree_at(limit, posts, i * n + j) {
+                    return Some(i * n + j);
+                }
             }
         }
         None

@@ -1,6 +1,7 @@
 // Which line is cut next: of those above their capacity the one with the smallest fraction (c−b)/a, c its capacity; on a tie, the lowest.
 ghost use Rattle.std.specs.Prelude.{◌*◌, ◌<◌, IfSome, unwrap_or};
 ghost use Rattle.fair.specs.Cuts.{Comparable, Ahead, NextLine};
+ghost use Rattle.fair.specs.Fractions.{Carried, line_found};
 
 // The two sums of each line while lines are cut: of its unmodified cells, the a of its fraction, and of its modified ones, the b.
 #[derive(Drop)]
@@ -9,12 +10,21 @@ pub struct LineSums {
     pub modified: [u32; 128],
 }
 
+// A line above its capacity with its fraction: what is left of the capacity beside the modified cells, over the sum of the unmodified ones. It is carried
+// along, since to look it up again for each line costs a third more time.
+#[derive(Clone, Copy)]
+struct Fraction {
+    line: usize,
+    left: u32,
+    whole: u32,
+}
+
 // Whether a line is to be taken rather than the one found so far, if there is one.
-fn ahead(n: usize, cap: &[u32], sums: &LineSums, line: usize, found: Option<usize>) -> bool
+fn ahead(n: usize, cap: &[u32], sums: &LineSums, line: usize, found: Option<Fraction>) -> bool
     requires comparable { Comparable n cap.now sums.now.unmodified sums.now.modified }
     requires on_line { line < 2 * n }
-    requires found_on_line { IfSome found (λ best. best < 2 * n) }
-    ensures { Ahead n cap.now sums.now.unmodified sums.now.modified line (unwrap_or found (2 * n)) result }
+    requires carried { IfSome found (Carried n cap.now sums.now.unmodified sums.now.modified) }
+    ensures { Ahead n cap.now sums.now.unmodified sums.now.modified line (line_found (2 * n) found) result }
 {
     if sums.unmodified[line] + sums.modified[line] <= cap[line] {
         return false;
@@ -22,8 +32,7 @@ fn ahead(n: usize, cap: &[u32], sums: &LineSums, line: usize, found: Option<usiz
     let Some(best) = found else {
         return true;
     };
-    (cap[line] - sums.modified[line]) * sums.unmodified[best]
-        < (cap[best] - sums.modified[best]) * sums.unmodified[line]
+    (cap[line] - sums.modified[line]) * best.whole < best.left * sums.unmodified[line]
 }
 
 // The line to cut next, if one is above its capacity.
@@ -35,8 +44,12 @@ pub fn next_line(n: usize, cap: &[u32], sums: &LineSums) -> Option<usize>
     let mut found = None;
     for line in 0..2 * n {
         if ahead(n, cap, sums, line, found) {
-            found = Some(line);
+            found = Some(Fraction {
+                line,
+                left: cap[line] - sums.modified[line],
+                whole: sums.unmodified[line],
+            });
         }
     }
-    found
+    Some(found?.line)
 }
