@@ -8,7 +8,7 @@ use native.Mathlib.Omega.{arith}
 use mathlib.Core.Path.{◌≡◌, refl, sym, ◌∙◌, ap, subst}
 use mathlib.Core.Bool.{cond}
 use mathlib.Core.List.{List, [], ◌∷◌, ◌++◌}
-use lib.ListN.{length, get_or, take, length-append}
+use lib.ListN.{length, take, length-append}
 use Rattle.std.specs.Prelude.{Result, Ok, Err}
 use Rattle.std.specs.Result.{IsOk}
 use borrow.Author.Tests.{eq-eqb, ne_eqb}
@@ -16,7 +16,6 @@ use Rattle.sums.specs.Tables.{tab, written}
 use Rattle.sums.proofs.Tables.{mul_small, length_tab, tab_at, written_first}
 use Rattle.star.specs.Refusals.{Verdict, Accepted, verdict_of, Ranges}
 use Rattle.planner.specs.Plans.{Answer}
-use Rattle.star.proofs.RefusalLaws.{never}
 use Rattle.planner.specs.Lent.{Lent, LentRoom}
 use Rattle.calls.specs.declared.record.Run.{Run}
 use Rattle.calls.specs.Held.{Held, held, fresh_run, post_run, frame_run, record_after}
@@ -60,17 +59,6 @@ unfolding tab
 tab_snoc m f = rw add-one refl
 
 -- ---- no call is refused
--- a post of the cells read from the file, which are at most 65,535
-pub post_goes : (file : List ℕ) (at : ℕ) {h h' : Held} {table : List ℕ} (was : List ℕ) (v : Verdict) → Callable h → h.run.posts < 1000000 →
-    table ≡ written (h.run.nodes * h.run.nodes) (tab (h.run.nodes * h.run.nodes) (λ c. two file (at + 2 * c))) was →
-    ((c : ℕ) → c < h.run.nodes * h.run.nodes → two file (at + 2 * c) ≤ 65535) → Posted (take (h.run.nodes * h.run.nodes) table) h h' v → IsOk v
-post_goes file at {h} {h'} {table} was v callable few is small t =
-    let cells = h.run.nodes * h.run.nodes in
-    let cut : take cells table ≡ tab cells (λ c. two file (at + 2 * c))
-    = ap (take cells) is ∙ written_first cells (tab cells (λ c. two file (at + 2 * c))) was (length_tab (λ c. two file (at + 2 * c)) cells) in
-    let ok = post_theorems.accepts _ h h' v t callable (omega (arith, ap length cut, length_tab (λ c. two file (at + 2 * c)) cells)) (λ p lt. omega (arith, ap (λ a. get_or a p 0) cut, tab_at (λ c. two file (at + 2 * c)) cells p 0 lt, small p lt)) few in
-    rw ok refl
-
 -- tables for 64 nodes and 1,024 slots are long enough for a frame of a callable run
 frame_room : {h : Held} (lent : Lent) → Callable h → 4096 ≤ length lent.kept → 4096 ≤ length lent.withdrawn → 65536 ≤ length lent.schedule → LentRoom h.run.nodes h.run.slots lent
 frame_room {h} lent callable lk lw ls =
@@ -79,26 +67,31 @@ frame_room {h} lent callable lk lw ls =
     let bytes : h.run.slots * h.run.nodes ≤ 1024 * 64 = mul-le-mul sizes.slots sizes.nodes in
     record { kept = omega (arith, cells, lk); withdrawn = omega (arith, cells, lw); schedule = omega (arith, bytes, ls) }
 
-pub frame_goes : {h h' : Held} (lent plan : Lent) (r : Answer) → Callable h → h.run.frames < 1000000 → Framed lent plan h h' r → length lent.kept ≡ 4096 → length lent.withdrawn ≡ 4096 → length lent.schedule ≡ 65536 → IsOk r
-frame_goes {h} {h'} lent plan r callable few f lk lw ls =
-    answered r (frame_theorems.accepts lent plan h h' r f callable (frame_room lent callable (le_of_eq (sym lk)) (le_of_eq (sym lw)) (le_of_eq (sym ls))) few)
-  where
-    answered : (r : Answer) → verdict_of r ≡ Accepted → IsOk r
-    answered (Ok f) e = refl
-    answered (Err x) e = absurd (never e)
+-- a frame on such tables
+pub frame_played : {h : Held} {beside : Run → Held} (lent plan : Lent) (r : Answer) → Framed lent plan h (beside (record_after (verdict_of r) (frame_run h.run) h.run)) r →
+    length lent.kept ≡ 4096 → length lent.withdrawn ≡ 4096 → length lent.schedule ≡ 65536 → FramePlayed h beside
+frame_played lent plan r f lk lw ls = record {
+  lent = lent;
+  plan = plan;
+  r = r;
+  framed = f;
+  long_kept = le_of_eq (sym lk);
+  long_withdrawn = le_of_eq (sym lw);
+  long_schedule = le_of_eq (sym ls);
+}
 
 -- ---- what can be played
 module _ {file : List ℕ} {e : ℕ} {h : Held} (c : CanPlay file e h) where
-  can_sound : Sound file
+  pub can_sound : Sound file
   can_sound = accepted_sound file c.good
 
   books : BooksHold (nodes_of file) (slots_of file) (limit_of file) (rule_of file) c.played.events h
   books = books_hold c.played.history
 
-  pub callable : Callable h
+  callable : Callable h
   callable = always_callable c.played.history
 
-  can_nodes : h.run.nodes ≡ nodes_of file
+  pub can_nodes : h.run.nodes ≡ nodes_of file
   can_nodes = ap (λ r. r.nodes) books.run
 
   module _ (in_table : e < entries_of file) where
@@ -190,9 +183,6 @@ module _ (file : List ℕ) {h : Held} {waiting posted sent dropped : List ℕ} {
       let ranges : Ranges (nodes_of file) (slots_of file) (rule_of file) (limit_of file) = (accepted_sound file good).ranges in
       let cells = mul_small (nodes_of file) (nodes_of file) ranges.sizes.nodes ranges.sizes.nodes in
       fresh_theorems.accepts _ _ _ _ h _ v f ranges (record { waiting = omega (arith, cells, rooms.queues); posted = omega (arith, cells, rooms.postings); sent = omega (arith, cells, rooms.sendings); dropped = omega (arith, cells, rooms.drops) })
-
-  pub fresh_starts : IsOk v
-  fresh_starts = rw fresh_accepted refl
 
   first_call : {start : Run} → start ≡ fresh_run (nodes_of file) (slots_of file) (limit_of file) (rule_of file) → Freshened (nodes_of file) (slots_of file) (limit_of file) (rule_of file) h (held start waiting posted sent dropped) Accepted
   first_call {start} is =
