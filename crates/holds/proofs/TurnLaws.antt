@@ -34,7 +34,6 @@ lower_paired {source = source} a b le p = record {
   allows = λ j hj lt. (b.all j hj).in' (get_or source j 0) lt (omega (arith, (a.all j hj).out (get_or source j 0) lt (p.allows j hj lt)));
 }
 
--- ---- before the first turn
 -- ---- all are paired, where need be at a lower level
 pub record Seeking (n : ℕ) (table may0 source0 destination0 may source destination : List ℕ) (level held held0 : ℕ) (free : Free) : Type 0 where
   pub may_len : length may ≡ length may0

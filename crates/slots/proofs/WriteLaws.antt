@@ -1,6 +1,6 @@
 -- Writing: what the loops over destinations and slots keep, that a setting more keeps what was placed, and what it adds to the
 -- reconfigurations. The laws assume nothing.
-use mathlib.Core.Path.{◌≡◌, sym, ap, ◌∙◌, subst}
+use mathlib.Core.Path.{◌≡◌, sym, ap, ◌∙◌, subst, subst}
 use mathlib.Core.Logic.{◌⊎◌}
 use mathlib.Core.List.{List}
 use Prim.Native.Nat.{ℕ, ◌+◌, ◌-◌, ◌*◌, ◌≤◌, ◌<◌}
@@ -44,6 +44,10 @@ fill_step {n = n} {s = s} {u = u} {k = k} le g b = record {
   old = λ m v hm hv. b.old m v (omega arith) hv ∙ g.old m v hm hv;
   beyond = b.beyond ∙ beyond_more n k (k + 1) u s (omega arith) g.beyond;
 }
+
+-- the slot that is written is the next one
+pub slot_here : {n : ℕ} {s u bytes : List ℕ} {k at : ℕ} → at ≡ k → WroteSlots n s u bytes at (at + 1) → WroteSlots n s u bytes k (k + 1)
+slot_here {n} {s} {u} {bytes} e wrote = subst (λ m. WroteSlots n s u bytes m (m + 1)) e wrote
 
 -- ---- a run of equal slots more
 module _ {n : ℕ} {s u bytes : List ℕ} {t : ℕ} (h : ℕ) (w : WroteSlots n s u bytes t (t + h)) where
