@@ -43,7 +43,7 @@ impl Books<'_> {
     }
 
     // The first pair in row order whose books disagree, if one's do. Row by row: of one loop over all cells the machine code is no longer, but it is not
-    // aligned, and takes a third more time.
+    // aligned, and takes up to 1.7 times as long.
     pub fn first_disagreeing(&self, n: usize, limit: u32, posts: u32) -> Option<usize>
         requires { Tables n self.now.waiting.now self.now.posted.now self.now.sent.now self.now.dropped.now }
         ensures { result ≡ found (n * n) (first_disagreeing n limit posts self.now.waiting.now self.now.posted.now self.now.sent.now self.now.dropped.now) }

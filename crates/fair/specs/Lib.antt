@@ -1,4 +1,3 @@
 -- The fair rule, and what the functions that carry it out ask and promise.
 pub mod Fair
 pub mod Cuts
-pub mod Fractions

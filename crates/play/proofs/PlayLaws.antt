@@ -58,7 +58,7 @@ tab_snoc : {A : Type 0} (m : ℕ) (f : ℕ → A) → tab (m + 1) f ≡ tab m f 
 unfolding tab
 tab_snoc m f = rw add-one refl
 
--- ---- no call is refused
+-- ---- the tables that a frame is lent
 -- tables for 64 nodes and 1,024 slots are long enough for a frame of a callable run
 frame_room : {h : Held} (lent : Lent) → Callable h → 4096 ≤ length lent.kept → 4096 ≤ length lent.withdrawn → 65536 ≤ length lent.schedule → LentRoom h.run.nodes h.run.slots lent
 frame_room {h} lent callable lk lw ls =

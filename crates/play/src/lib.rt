@@ -6,7 +6,6 @@ ghost use Rattle.std.specs.Prelude.{◌≡◌, ℕ, ◌+◌, ◌*◌, ◌≤◌,
 ghost use Rattle.sums.specs.Tables.{tab, written};
 ghost use Rattle.star.specs.Refusals.{Accepted};
 ghost use Rattle.calls.specs.Held.{held};
-ghost use Rattle.run.specs.Theorems.{Callable};
 ghost use Rattle.files.specs.Format.{two, entries_of};
 ghost use Rattle.files.specs.Reading.{read_verdict};
 ghost use Rattle.play.specs.Plays.{Played, LargeTables, CanPlay, PostPlayed, FramePlayed};

@@ -1,6 +1,6 @@
 -- Writing: what the loops over destinations and slots keep, that a setting more keeps what was placed, and what it adds to the
 -- reconfigurations. The laws assume nothing.
-use mathlib.Core.Path.{◌≡◌, sym, ap, ◌∙◌, subst, subst}
+use mathlib.Core.Path.{◌≡◌, sym, ap, ◌∙◌, subst}
 use mathlib.Core.Logic.{◌⊎◌}
 use mathlib.Core.List.{List}
 use Prim.Native.Nat.{ℕ, ◌+◌, ◌-◌, ◌*◌, ◌≤◌, ◌<◌}

@@ -5,7 +5,7 @@ use Rattle.fair.proofs.choice.next_line.Goals as goal
 use Rattle.fair.proofs.choice.next_line.Goals.{then-ahead, else-ahead}
 
 pub loop-line-init : goal.loop-line-init
-loop-line-init c = (tt, next_start _ _ _ _)
+loop-line-init c = (omega arith, next_start _ _ _ _)
 
 pub loop-line-preserved : goal.loop-line-preserved
 loop-line-preserved c =
